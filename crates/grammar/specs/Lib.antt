@@ -1,0 +1,10 @@
+pub mod Seen
+pub mod State
+pub mod Tests
+pub mod Advance
+pub mod Names
+pub mod Reading
+pub mod Form
+pub mod Laws
+pub mod Pull
+pub mod Sheets

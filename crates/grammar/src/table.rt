@@ -1,0 +1,12 @@
+//! The table of the names that stood.
+use crate::stand::Standing;
+ghost use Prim.Native.Nat.{_≤_};
+
+/// The names that stood, in the order of their first standing: the first `count` rows. A text of 65,535 bytes has
+/// no more names than bytes.
+#[derive(Drop)]
+pub struct Names {
+    pub table: [Standing; 65535],
+    pub count: usize,
+    ghost room: { count ≤ 65535 },
+}

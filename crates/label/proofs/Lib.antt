@@ -1,0 +1,5 @@
+pub mod Spell
+pub mod Digits
+pub mod Writing
+mod SureLaws
+mod Laws

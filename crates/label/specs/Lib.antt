@@ -1,0 +1,4 @@
+pub mod Kind
+pub mod Tokens
+pub mod WordKind
+pub mod WordOrNumberKind
