@@ -10,7 +10,7 @@ use lib.ListN.{length, getD, set}
 use Rattle.std.proofs.shelf.Ways.{tells}
 use lib.Seq.{getD-set-same, getD-set-other}
 use Rattle.grammar.specs.State.{open-cells, outer, with-set}
-use Rattle.grammar.specs.Tests.{inside, no-set-here}
+use Rattle.grammar.specs.Tests.{inside, set-barred}
 
 pub length-cells : (d : ℕ) (sets : List Bool) → length (open-cells d sets) ≡ d
 unfolding open-cells
@@ -27,12 +27,12 @@ unfolding open-cells
 inside-none zero sets h = refl
 inside-none (suc d) sets h = absurd (omega arith)
 
-pub set-some : (d : ℕ) (sets : List Bool) → (d ≡ 0 → ⊥) → no-set-here (open-cells d sets) ≡ getD sets d false
+pub set-some : (d : ℕ) (sets : List Bool) → (d ≡ 0 → ⊥) → set-barred (open-cells d sets) ≡ getD sets d false
 unfolding open-cells
 set-some zero sets h = absurd (h refl)
 set-some (suc d) sets h = refl
 
-pub set-none : (d : ℕ) (sets : List Bool) → d ≡ 0 → no-set-here (open-cells d sets) ≡ true
+pub set-none : (d : ℕ) (sets : List Bool) → d ≡ 0 → set-barred (open-cells d sets) ≡ true
 unfolding open-cells
 set-none zero sets h = refl
 set-none (suc d) sets h = absurd (omega arith)

@@ -256,9 +256,9 @@ stood st at-sign = 0
 stood st other = 0
 
 -- the innermost cell has its set, or there is no cell
-abbrev pub no-set-here : List Bool → Bool
-no-set-here [] = true
-no-set-here (b ∷ bs) = b
+abbrev pub set-barred : List Bool → Bool
+set-barred [] = true
+set-barred (b ∷ bs) = b
 
 -- 4: the token stands for an atom's label, and the kind has no such label
 abbrev pub foreign-label : {L : Type 0} → Kind L → State → Seen → Bool
@@ -282,7 +282,7 @@ third-standing st s = is-name s && leb 2 (stood st s)
 
 -- 11: a set on the outermost level, or a second one in a cell
 abbrev pub misplaced-set : State → Seen → Bool
-misplaced-set st s = is-at-sign s && no-set-here (st .cells)
+misplaced-set st s = is-at-sign s && set-barred (st .cells)
 
 -- 12: a connector past the 64th
 abbrev pub crowded : State → Seen → Bool

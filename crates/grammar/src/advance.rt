@@ -1,4 +1,5 @@
 //! Where a reading stands after one token more.
+use crate::limits::DEPTHS;
 use crate::sign::Sign;
 use crate::stand::Phase;
 use crate::stand::Stand;
@@ -60,7 +61,7 @@ fn next_connectors(stand: &Stand, sign: Sign<'_>) -> usize
 }
 
 /// How many cells are open, and which of them have their set, after a token that is not at fault.
-fn next_cells(stand: &Stand, sign: Sign<'_>) -> (usize, [bool; 17])
+fn next_cells(stand: &Stand, sign: Sign<'_>) -> (usize, [bool; DEPTHS])
     requires { ⌜ too-deep (state-of (now stand) []) (seen sign) ≡ false ⌝ }
     ensures is { λ r. ⌜ open-cells (r .0) (r .1) ≡ next-cells (open-cells (now (stand .entry) .depth) (now (stand .entry) .sets)) (seen (sign .entry)) ⌝ }
     ensures shallow { λ r. ⌜ r .0 ≤ 16 ⌝ }

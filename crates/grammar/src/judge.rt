@@ -1,5 +1,9 @@
 //! The verdict on one token.
 use crate::event::Event;
+use crate::limits::CONNECTOR_LIMIT;
+use crate::limits::DEPTH_LIMIT;
+use crate::limits::PORT_LIMIT;
+use crate::limits::SET_LIMIT;
 use crate::sign::Sign;
 use crate::stand::Phase;
 use crate::stand::Stand;
@@ -34,7 +38,7 @@ fn judge_name<L: Label>(stand: &Stand, name: Name, times: u8) -> Result<Option<E
     ensures { λ r. ⌜ ((ns : List Standing) → times ≡ standings name ns → r ≡ judged kind (state-of (now (stand .entry)) ns) (named name)) ⌝ }
 {
     match stand.phase {
-        Phase::Ports(n) if n >= 8 => Err(Refusal::NinthPort),
+        Phase::Ports(n) if n >= PORT_LIMIT => Err(Refusal::NinthPort),
         Phase::Ports(_) => {
             if times >= 2 {
                 Err(Refusal::HangName)
@@ -52,7 +56,7 @@ fn judge_name<L: Label>(stand: &Stand, name: Name, times: u8) -> Result<Option<E
         Phase::Start | Phase::Item => {
             if times >= 2 {
                 Err(Refusal::HangName)
-            } else if stand.connectors >= 64 {
+            } else if stand.connectors >= CONNECTOR_LIMIT {
                 Err(Refusal::TooManyItems)
             } else {
                 Ok(Some(Event::First(name)))
@@ -68,7 +72,7 @@ fn judge_open<L: Label>(stand: &Stand) -> Result<Option<Event<L>>, Refusal>
 {
     match stand.phase {
         Phase::Start | Phase::Item => {
-            if stand.depth >= 16 {
+            if stand.depth >= DEPTH_LIMIT {
                 Err(Refusal::TooDeep)
             } else {
                 Ok(Some(Event::Enter))
@@ -117,8 +121,8 @@ fn set_number(bytes: &[u8]) -> Option<u8>
     match bytes {
         [] | [b'-', ..] => None,
         _ => {
-            let k = value_up_to(16, bytes);
-            if k >= 1 && k <= 15 {
+            let k = value_up_to(SET_LIMIT + 1, bytes);
+            if k >= 1 && k <= SET_LIMIT {
                 Some(k as u8)
             } else {
                 None

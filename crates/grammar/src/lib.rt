@@ -2,6 +2,7 @@
 pub mod advance;
 pub mod event;
 pub mod judge;
+pub mod limits;
 pub mod names;
 pub mod pull;
 pub mod read;

@@ -1,4 +1,5 @@
 //! The names that stood in a text.
+use crate::limits::TEXT_LIMIT;
 use crate::stand::Standing;
 use text::packed::Name;
 ghost use mathlib.Core.Path.{_≡_};
@@ -8,6 +9,7 @@ ghost use Rattle.grammar.specs.State.{times, noted};
 ghost use Rattle.grammar.specs.Names.{names-of, position};
 ghost use Rattle.grammar.specs.Reading.{lone, first-lone};
 ghost use Rattle.grammar.specs.Sheets.{once-in};
+ghost use Rattle.grammar.specs.Tests.{text-limit};
 use crate::table::Names;
 
 /// Whether a name begins with `_` and stood once.
@@ -29,7 +31,7 @@ impl Names {
             place: 0,
         };
         Names {
-            table: [none; 65535],
+            table: [none; TEXT_LIMIT],
             count: 0,
         }
     }
@@ -54,7 +56,7 @@ impl Names {
     /// One more standing of a name at a place, with the row that a look gave.
     pub fn note(&mut self, name: Name, row: usize, place: usize)
         requires at { ⌜ row ≡ position name (names-of (now self)) ⌝ }
-        requires room { ⌜ now self .count < 65535 ⌝ }
+        requires room { ⌜ now self .count < text-limit ⌝ }
         ensures is { λ _. ⌜ names-of (now (self .exit)) ≡ noted name place (names-of (now (self .entry))) ⌝ }
         ensures few { λ _. ⌜ now (self .exit) .count ≤ now (self .entry) .count + 1 ⌝ }
     {

@@ -2,6 +2,8 @@
 use crate::advance::advance;
 use crate::event::Event;
 use crate::judge::judge;
+use crate::limits::DEPTHS;
+use crate::limits::TEXT_LIMIT;
 use crate::reader::Reader;
 use crate::sign::Sign;
 use crate::sign::sign_of;
@@ -29,7 +31,7 @@ ghost use Rattle.grammar.specs.Pull.{left, limited, Begun, Taken, given, Goes,
 pub fn limit_length(text: &[u8]) -> Result<(), Fault>
     ensures { λ r. ⌜ r ≡ limited (now (text .entry)) ⌝ }
 {
-    if text.len() > 65535 {
+    if text.len() > TEXT_LIMIT {
         Err(Fault {
             refusal: Refusal::TextTooLong,
             place: 0,
@@ -53,7 +55,7 @@ fn look(stand: &Stand, names: &Names, sign: Sign<'_>) -> (usize, u8)
 /// Notes the standing of a token's name.
 fn note(names: &mut Names, sign: Sign<'_>, row: usize, place: usize)
     requires at { ⌜ Row (seen sign) (names-of (now names)) row ⌝ }
-    requires room { ⌜ now names .count < 65535 ⌝ }
+    requires room { ⌜ now names .count < text-limit ⌝ }
     ensures is { λ _. ⌜ names-of (now (names .exit)) ≡ next-names (names-of (now (names .entry))) (seen (sign .entry)) place ⌝ }
     ensures few { λ _. ⌜ now (names .exit) .count ≤ now (names .entry) .count + 1 ⌝ }
 {
@@ -100,7 +102,7 @@ impl<'t> Reader<'t> {
         let stand = Stand {
             phase: Phase::Start,
             depth: 0,
-            sets: [false; 17],
+            sets: [false; DEPTHS],
             connectors: 0,
         };
         Reader {

@@ -1,4 +1,5 @@
 //! Where the reading of a hang stands.
+use crate::limits::DEPTHS;
 use text::packed::Name;
 ghost use Prim.Native.Nat.{_≤_};
 
@@ -32,7 +33,7 @@ pub struct Stand {
     /// How many cells are open.
     pub depth: usize,
     /// Whether each open cell has its set, by its depth.
-    pub sets: [bool; 17],
+    pub sets: [bool; DEPTHS],
     /// How many connectors were begun.
     pub connectors: usize,
     ghost shallow: { depth ≤ 16 },

@@ -1,4 +1,5 @@
 //! The table of the names that stood.
+use crate::limits::TEXT_LIMIT;
 use crate::stand::Standing;
 ghost use Prim.Native.Nat.{_≤_};
 
@@ -6,7 +7,7 @@ ghost use Prim.Native.Nat.{_≤_};
 /// no more names than bytes.
 #[derive(Drop)]
 pub struct Names {
-    pub table: [Standing; 65535],
+    pub table: [Standing; TEXT_LIMIT],
     pub count: usize,
     ghost room: { count ≤ 65535 },
 }

@@ -12,7 +12,7 @@ use label::word_or_number::WordsAndNumbers;
 use std::test::*;
 
 /// Whether a fault has a number, a layer and a place.
-pub fn is_fault(fault: &Fault, number: u8, text: bool, place: usize) -> bool {
+pub(crate) fn is_fault(fault: &Fault, number: u8, text: bool, place: usize) -> bool {
     let layer = match fault.layer() {
         Layer::Text => text,
         Layer::Grammar => !text,
@@ -22,7 +22,7 @@ pub fn is_fault(fault: &Fault, number: u8, text: bool, place: usize) -> bool {
 }
 
 /// A text is refused by a number at a place. Numbers to 4 are of the text, and the others of the grammar.
-pub fn refused<L: Label>(text: &[u8], number: u8, place: usize) -> Result<(), Fail> {
+pub(crate) fn refused<L: Label>(text: &[u8], number: u8, place: usize) -> Result<(), Fail> {
     match read::<L>(text) {
         Ok(_) => Err(Fail::new("read without fault")),
         Err(fault) => {
@@ -37,7 +37,13 @@ pub fn refused<L: Label>(text: &[u8], number: u8, place: usize) -> Result<(), Fa
 }
 
 /// A text holds so many atoms, cells, connectors and names that stand once.
-pub fn holds<L: Label>(text: &[u8], atoms: usize, cells: usize, connectors: usize, once: usize) -> Result<(), Fail> {
+pub(crate) fn holds<L: Label>(
+    text: &[u8],
+    atoms: usize,
+    cells: usize,
+    connectors: usize,
+    once: usize,
+) -> Result<(), Fail> {
     let sheet = read::<L>(text)?;
     check_eq(sheet.atoms, atoms)?;
     check_eq(sheet.cells, cells)?;

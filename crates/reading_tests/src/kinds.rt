@@ -1,6 +1,6 @@
 //! Label kinds, and one that takes no token.
-use crate::cases::refused;
 use crate::cases::holds;
+use crate::cases::refused;
 use crate::mute::Mute;
 use crate::mute::MuteLabels;
 use label::form::Form;
@@ -64,11 +64,26 @@ fn lower<L: Label>(a: Option<L>, b: Option<L>) -> Result<(), Fail> {
 
 #[test]
 fn ordered() -> Result<(), Fail> {
-    lower(WordOrNumber::read(Form::Number, b"7"), WordOrNumber::read(Form::Word, b"a"))?;
-    lower(WordOrNumber::read(Form::Number, b"-8"), WordOrNumber::read(Form::Number, b"-7"))?;
-    lower(WordOrNumber::read(Form::Number, b"-1"), WordOrNumber::read(Form::Number, b"0"))?;
-    lower(WordOrNumber::read(Form::Word, b"a"), WordOrNumber::read(Form::Word, b"aA"))?;
-    lower(WordLabel::read(Form::Word, b"a9"), WordLabel::read(Form::Word, b"aA"))?;
+    lower(
+        WordOrNumber::read(Form::Number, b"7"),
+        WordOrNumber::read(Form::Word, b"a"),
+    )?;
+    lower(
+        WordOrNumber::read(Form::Number, b"-8"),
+        WordOrNumber::read(Form::Number, b"-7"),
+    )?;
+    lower(
+        WordOrNumber::read(Form::Number, b"-1"),
+        WordOrNumber::read(Form::Number, b"0"),
+    )?;
+    lower(
+        WordOrNumber::read(Form::Word, b"a"),
+        WordOrNumber::read(Form::Word, b"aA"),
+    )?;
+    lower(
+        WordLabel::read(Form::Word, b"a9"),
+        WordLabel::read(Form::Word, b"aA"),
+    )?;
     check(WordLabel::read(Form::Word, b"A").is_none())?;
     check(WordLabel::read(Form::Word, b"a!").is_none())?;
     check(WordOrNumber::read(Form::Number, b"-").is_none())?;

@@ -50,8 +50,16 @@ fn last_places(rt: LibcRuntime) -> Result<(), Fail> {
 
 #[test]
 fn last_names(rt: LibcRuntime) -> Result<(), Fail> {
-    refused::<WordLabel>(&spaced(rt.alloc(), b"{{{{{{{{{{{{{{{{", 65518, b"{")?, 6, 65534)?;
-    refused::<WordLabel>(&spaced(rt.alloc(), b"a(A,B,C,D,E,F,G,H,", 65516, b"I")?, 7, 65534)?;
+    refused::<WordLabel>(
+        &spaced(rt.alloc(), b"{{{{{{{{{{{{{{{{", 65518, b"{")?,
+        6,
+        65534,
+    )?;
+    refused::<WordLabel>(
+        &spaced(rt.alloc(), b"a(A,B,C,D,E,F,G,H,", 65516, b"I")?,
+        7,
+        65534,
+    )?;
     refused::<WordLabel>(&spaced(rt.alloc(), b"a(A,A,", 65528, b"A")?, 8, 65534)?;
     refused::<WordLabel>(&spaced(rt.alloc(), b"a(", 65531, b"_)")?, 8, 65533)
 }

@@ -6,6 +6,7 @@ use crate::class::goes_on;
 use crate::class::is_blank;
 use crate::token::Found;
 use crate::token::Mark;
+use crate::token::NAME_LIMIT;
 use crate::token::Sort;
 use crate::token::Token;
 use fault::Fault;
@@ -59,7 +60,7 @@ fn mark_of(b: u8) -> Mark
 fn measure(sort: Sort, n: usize) -> Result<(Sort, usize), Refusal>
     ensures { λ r. ⌜ r ≡ measured sort n ⌝ }
 {
-    if n < 8 {
+    if n < NAME_LIMIT {
         Ok((sort, n))
     } else {
         Err(Refusal::LongName)

@@ -3,6 +3,7 @@ use crate::class::Class;
 use crate::class::Run;
 use crate::class::class_of;
 use crate::lexer::run_length;
+use crate::token::NAME_LIMIT;
 ghost use mathlib.Core.Path.{_≡_};
 ghost use mathlib.Core.List.{[]};
 ghost use lib.ListN.{length};
@@ -69,7 +70,7 @@ pub fn is_word(bytes: &[u8]) -> bool
     match bytes {
         [first, rest @ ..] => matches!(class_of(*first), Class::Lower)
             && run_length(Run::Tails, rest) == rest.len()
-            && rest.len() < 8,
+            && rest.len() < NAME_LIMIT,
         [] => false,
     }
 }

@@ -1,5 +1,8 @@
 //! Tokens, which borrow the text.
 
+/// The most characters of a word or a line name.
+pub const NAME_LIMIT: usize = 8;
+
 /// A token that is always the same bytes.
 #[derive(Clone, Copy, PartialEq, Eq, Debug)]
 pub enum Mark {
