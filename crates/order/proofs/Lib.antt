@@ -1,0 +1,4 @@
+pub mod Reach
+pub mod Coprime
+pub mod Search
+pub mod Shuffle
