@@ -1,0 +1,6 @@
+mod Cutting
+mod Adding
+mod Working
+mod Refusing
+mod Pointing
+mod Lining

@@ -1,0 +1,5 @@
+pub mod Cuts
+pub mod Commands
+pub mod Windows
+pub mod Answers
+pub mod Scripts
