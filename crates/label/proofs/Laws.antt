@@ -20,7 +20,8 @@ use Rattle.label.specs.declared.sure.SureWordOrNumber.the-variants as sures
 use Rattle.label.specs.declared.word.WordLabel.{WordLabel}
 use Rattle.label.specs.declared.word_or_number.WordOrNumber.{WordOrNumber}
 use Rattle.label.specs.declared.word_or_number.WordOrNumber.the-variants.{Word, Number}
-use Rattle.label.specs.Kind.{Lawful, Shown, Sound, mapped}
+use Rattle.label.specs.Kind.{Lawful, Shown, Sound}
+use Rattle.std.specs.Options.{mapped}
 use Rattle.label.specs.Tokens.{in-range, read-number, read-word, word-label}
 use Rattle.label.specs.WordKind.{the-word, word-kind, word-raw}
 use Rattle.label.specs.WordOrNumberKind.{mixed-kind, mixed-lower, mixed-mine, mixed-raw, mixed-token}

@@ -61,10 +61,6 @@ pub record Sound {L S : Type 0} (k : Kind L) (raw : S → L) : Type 0 where
 abbrev pub compared : {L : Type 0} → (L → L → Bool) → L → L → Ordering
 compared lower a b = cond (lower a b) Less (cond (lower b a) Greater Equal)
 
-abbrev pub mapped : {A B : Type 0} → (A → B) → Option A → Option B
-mapped f None = None
-mapped f (Some x) = Some (f x)
-
 abbrev pub admitted : {L : Type 0} → (L → Bool) → L → Option L
 admitted mine a = cond (mine a) (Some a) None
 

@@ -8,7 +8,8 @@ use Rattle.label.specs.declared.form.Form.{Form}
 use Rattle.label.specs.declared.form.Form.the-variants.{Word, Number}
 use Rattle.label.specs.declared.sure.SureWord.{SureWord}
 use Rattle.label.specs.declared.word.WordLabel.{WordLabel}
-use Rattle.label.specs.Kind.{Kind, mapped}
+use Rattle.label.specs.Kind.{Kind}
+use Rattle.std.specs.Options.{mapped}
 use Rattle.label.specs.Tokens.{read-word, word-label, word-token}
 
 abbrev pub the-word : ℕ → WordLabel

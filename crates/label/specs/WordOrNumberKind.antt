@@ -11,7 +11,8 @@ use Rattle.label.specs.declared.sure.SureWordOrNumber.{SureWordOrNumber}
 use Rattle.label.specs.declared.sure.SureWordOrNumber.the-variants as sures
 use Rattle.label.specs.declared.word_or_number.WordOrNumber.{WordOrNumber}
 use Rattle.label.specs.declared.word_or_number.WordOrNumber.the-variants.{Word, Number}
-use Rattle.label.specs.Kind.{Kind, mapped}
+use Rattle.label.specs.Kind.{Kind}
+use Rattle.std.specs.Options.{mapped}
 use Rattle.label.specs.Tokens.{in-range, number-token, read-number, read-word, word-label, word-token}
 
 abbrev pub mixed-mine : WordOrNumber → Bool

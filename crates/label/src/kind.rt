@@ -2,7 +2,8 @@
 use crate::form::Form;
 use std::cmp::Ordering;
 ghost use mathlib.Core.Path.{_≡_};
-ghost use Rattle.label.specs.Kind.{Kind, Lawful, Sound, admitted, compared, mapped, measured, written};
+ghost use Rattle.label.specs.Kind.{Kind, Lawful, Sound, admitted, compared, measured, written};
+ghost use Rattle.std.specs.Options.{mapped};
 
 /// A kind of label. Some values of the type may be no label: `kind` says which are, and how labels are read, written and ordered.
 /// `Sure` has labels only, and one value for each: `raw` is its label.

@@ -8,7 +8,8 @@ use text::packed::spelled;
 ghost use mathlib.Core.Path.{_≡_};
 ghost use lib.Dec.{ltb};
 ghost use Rattle.label.specs.Tokens.{read-word, word-label, word-token};
-ghost use Rattle.label.specs.Kind.{admitted, compared, mapped, measured, written};
+ghost use Rattle.label.specs.Kind.{admitted, compared, measured, written};
+ghost use Rattle.std.specs.Options.{mapped};
 
 /// The packed word that bytes are, if they are a word.
 pub(crate) fn read_word(bytes: &[u8]) -> Option<u64>

@@ -10,6 +10,7 @@ use Rattle.std.proofs.shelf.Ways.{tells}
 use Rattle.std.specs.declared.result.Result.the-variants.{Ok, Err}
 use Rattle.text.specs.declared.class.Class.{Class}
 use Rattle.text.specs.declared.class.Class.the-variants as classes
+use Rattle.text.specs.declared.token.Sort.{Sort}
 use Rattle.text.specs.declared.token.Sort.the-variants as sorts
 use Rattle.text.specs.declared.token.Mark.the-variants.{Turn, Colon}
 use Rattle.fault.specs.declared.Refusal.the-variants.{NoToken, LongName}
@@ -36,23 +37,17 @@ Fine b bs (Err r) = Unit {0}
 short : (n m : ℕ) → ltb n 8 ≡ true → m ≡ n → leb (suc m) 8 ≡ true
 short n m h e = grind (arith, tells)
 
-word-fine : (b : ℕ) (bs : List ℕ) → lower b ≡ true → Fine b bs (measured sorts.Word (longest tail bs))
-word-fine b bs e =
-    let n = longest tail bs in
+-- a first byte and its run are a word or a line name
+named-run : (first : ℕ → Bool) (b : ℕ) (bs : List ℕ) → first b ≡ true → ltb (longest tail bs) 8 ≡ true → begins first tail (b ∷ take (longest tail bs) bs) && leb (suc (length (take (longest tail bs) bs))) 8 ≡ true
+named-run first b bs e h =
     let r = run-passes tail bs in
-    elim (ltb n 8) as (λ v. (ltb n 8 ≡ v) → Fine b bs (cond v (Ok (sorts.Word, n)) (Err LongName))) [
-      | true ↦ λ h. let s = short n (length (take n bs)) h (r .1) in rw (e, r .0, s)
-      | false ↦ λ h. tt
-    ] refl
+    let s = short (longest tail bs) (length (take (longest tail bs) bs)) h (r .1) in
+    rw (e, r .0, s)
 
-name-fine : (b : ℕ) (bs : List ℕ) → upper b ≡ true → Fine b bs (measured sorts.LineName (longest tail bs))
-name-fine b bs e =
+measured-fine : (s : Sort) (b : ℕ) (bs : List ℕ) → (ltb (longest tail bs) 8 ≡ true → proper (tok s (b ∷ take (longest tail bs) bs)) ≡ true) → Fine b bs (measured s (longest tail bs))
+measured-fine s b bs fine =
     let n = longest tail bs in
-    let r = run-passes tail bs in
-    elim (ltb n 8) as (λ v. (ltb n 8 ≡ v) → Fine b bs (cond v (Ok (sorts.LineName, n)) (Err LongName))) [
-      | true ↦ λ h. let s = short n (length (take n bs)) h (r .1) in rw (e, r .0, s)
-      | false ↦ λ h. tt
-    ] refl
+    elim (ltb n 8) as (λ v. (ltb n 8 ≡ v) → Fine b bs (cond v (Ok (s, n)) (Err LongName))) [ true ↦ fine | false ↦ λ h. tt ] refl
 
 digit-not-minus : (b : ℕ) → digit b ≡ true → eqb b 45 ≡ false
 unfolding class-of
@@ -105,8 +100,8 @@ front-fine b bs = by (class-of b) refl
   where
     by : (k : Class) → class-of b ≡ k → Fine b bs (by-class k b bs)
     by classes.Blank e = tt
-    by classes.Lower e = word-fine b bs (ap lower-class e)
-    by classes.Upper e = name-fine b bs (ap upper-class e)
+    by classes.Lower e = measured-fine sorts.Word b bs (named-run lower b bs (ap lower-class e))
+    by classes.Upper e = measured-fine sorts.LineName b bs (named-run upper b bs (ap upper-class e))
     by classes.Digit e = number-fine b bs (ap digit-class e)
     by classes.Minus e = negative-fine b bs (minus-is b e)
     by classes.Mark e = mark-fine b bs (eqb b 58)
