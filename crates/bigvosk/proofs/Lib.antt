@@ -4,3 +4,5 @@ mod Working
 mod Refusing
 mod Pointing
 mod Lining
+mod Counting
+mod Listing

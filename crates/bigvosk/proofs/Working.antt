@@ -10,7 +10,7 @@ use lib.Chars.{codes}
 use Rattle.text.proofs.Slices.{at-none}
 use Rattle.bigvosk.specs.declared.line.KindName.{KindName}
 use Rattle.bigvosk.specs.declared.line.Command.{Command}
-use Rattle.bigvosk.specs.declared.line.Command.the-variants.{Pass, Kind, Read, Unknown}
+use Rattle.bigvosk.specs.declared.line.Command.the-variants.{Pass, Kind, Read, Places, Unknown}
 use Rattle.bigvosk.specs.Answers.{answer-to}
 use Rattle.bigvosk.specs.Commands.{told, command-of}
 use Rattle.bigvosk.specs.Windows.{newline}
@@ -64,6 +64,7 @@ pub echoes : (k : KindName) (line : List ℕ) (c : Command) → (c ≡ Pass → 
 echoes k line Pass h = absurd (h refl)
 echoes k line (Kind j) h = refl
 echoes k line (Read text) h = refl
+echoes k line (Places n order) h = refl
 echoes k line Unknown h = refl
 
 pub kind-passed : (k : KindName) (line : List ℕ) (c : Command) → c ≡ Pass → told c ≡ command-of line → k ≡ next-kind k (command-of line)

@@ -18,7 +18,8 @@ use Rattle.grammar.specs.declared.sheet.Sheet.{Sheet}
 use Rattle.grammar.specs.Sheets.{sheet-of}
 use Rattle.bigvosk.specs.declared.line.KindName.{KindName}
 use Rattle.bigvosk.specs.declared.line.KindName.the-variants.{Words, Numbers}
-use Rattle.bigvosk.specs.Commands.{Told, pass-over, set-kind, read-text, not-known}
+use Rattle.bigvosk.specs.Commands.{Told, pass-over, set-kind, read-text, list-places, not-known}
+use Rattle.bigvosk.specs.Places.{places-by, places-line}
 use Rattle.bigvosk.specs.Windows.{newline, pointing}
 
 -- what reading a text answers, by the kind of labels
@@ -68,4 +69,5 @@ abbrev pub answer-to : KindName → Told → List ℕ
 answer-to k pass-over = []
 answer-to k (set-kind j) = codes "done" ++ newline
 answer-to k (read-text text) = outcome-of (read-as k text) text
+answer-to k (list-places n order) = places-line (places-by order n)
 answer-to k not-known = codes "unknown command" ++ newline

@@ -8,7 +8,7 @@ use lib.Dec.{eqb}
 use lib.Chars.{codes}
 use Rattle.bigvosk.specs.declared.line.KindName.{KindName}
 use Rattle.bigvosk.specs.Answers.{answer-to}
-use Rattle.bigvosk.specs.Commands.{Told, pass-over, set-kind, read-text, not-known, command-of}
+use Rattle.bigvosk.specs.Commands.{Told, pass-over, set-kind, read-text, list-places, not-known, command-of}
 use Rattle.bigvosk.specs.Cuts.{Free}
 use Rattle.bigvosk.specs.Windows.{newline}
 
@@ -42,6 +42,7 @@ abbrev pub next-kind : KindName → Told → KindName
 next-kind k pass-over = k
 next-kind k (set-kind j) = j
 next-kind k (read-text text) = k
+next-kind k (list-places n order) = k
 next-kind k not-known = k
 
 -- a line as it is printed before its answer
@@ -53,6 +54,7 @@ abbrev pub printed-as : KindName → List ℕ → Told → List ℕ
 printed-as k line pass-over = []
 printed-as k line (set-kind j) = echo line ++ answer-to k (set-kind j)
 printed-as k line (read-text text) = echo line ++ answer-to k (read-text text)
+printed-as k line (list-places n order) = echo line ++ answer-to k (list-places n order)
 printed-as k line not-known = echo line ++ answer-to k not-known
 
 unfoldable pub printed : KindName → List ℕ → List ℕ

@@ -2,6 +2,7 @@
 use crate::bytes::add;
 use crate::line::Command;
 use crate::line::KindName;
+use crate::places::add_places;
 use crate::point::add_pointing;
 use crate::reading::read_as;
 use fault::Fault;
@@ -110,6 +111,7 @@ pub fn add_answer(
         Command::Pass => Ok(()),
         Command::Kind(_) => add(out, b"done\n"),
         Command::Read(text) => add_reading(heap, out, kind, text),
+        Command::Places(n, order) => add_places(heap, out, n, order),
         Command::Unknown => add(out, b"unknown command\n"),
     }
 }

@@ -3,6 +3,8 @@ mod answer;
 mod bytes;
 mod cut;
 mod line;
+mod numbers;
+mod places;
 mod point;
 mod reading;
 mod window;
