@@ -1,0 +1,11 @@
+pub mod Census
+pub mod Counting
+pub mod Deciding
+pub mod Each
+pub mod Leads
+pub mod Naming
+pub mod Placing
+pub mod Rows
+pub mod Struck
+pub mod Tallying
+pub mod Wholeness

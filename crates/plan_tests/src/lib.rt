@@ -1,0 +1,3 @@
+//! Tests of soundness and strike, with tables written by hand.
+#[cfg(test)]
+mod tables;
