@@ -13,7 +13,7 @@ use Rattle.std.proofs.shelf.Ways.{tells}
 use Rattle.text.proofs.Slices.{past, at-first, at-none}
 use Rattle.plan.specs.declared.tables.Atom.{Atom}
 use Rattle.plan.specs.declared.tables.FreeLink.{FreeLink}
-use Rattle.plan.specs.Model.{piece-of}
+use Rattle.plan.specs.Model.{node-of}
 use Rattle.plan.specs.Sound.{each, count, port-links}
 use Rattle.plan.specs.Tally.{bumped, tallied, is-twice}
 use Rattle.plan.specs.Tests.{links-test}
@@ -34,16 +34,16 @@ unfolding tallied
 tallied-append [] t counts = refl
 tallied-append (x ∷ s) t counts = tallied-append s t (bumped x counts)
 
-pub ports-one : {L : Type 0} (x : Atom L) (s : List (Atom L)) (counts : List ℕ) → 0 < length s → x ≡ getD s 0 x → tallied (port-links (map piece-of s)) counts ≡ tallied (port-links (map piece-of (past 1 s))) (tallied (take (x .arity) (x .links)) counts)
+pub ports-one : {L : Type 0} (x : Atom L) (s : List (Atom L)) (counts : List ℕ) → 0 < length s → x ≡ getD s 0 x → tallied (port-links (map node-of s)) counts ≡ tallied (port-links (map node-of (past 1 s))) (tallied (take (x .arity) (x .links)) counts)
 unfolding port-links
 ports-one x s counts h is =
-    ap (λ t. tallied (port-links (map piece-of t)) counts) (at-first x s h)
-    ∙ tallied-append (piece-of (getD s 0 x) .links) (port-links (map piece-of (past 1 s))) counts
-    ∙ ap (λ a. tallied (port-links (map piece-of (past 1 s))) (tallied (piece-of a .links) counts)) (sym is)
+    ap (λ t. tallied (port-links (map node-of t)) counts) (at-first x s h)
+    ∙ tallied-append (node-of (getD s 0 x) .links) (port-links (map node-of (past 1 s))) counts
+    ∙ ap (λ a. tallied (port-links (map node-of (past 1 s))) (tallied (node-of a .links) counts)) (sym is)
 
-pub ports-none : {L : Type 0} (s : List (Atom L)) (counts : List ℕ) → length s ≡ 0 → tallied (port-links (map piece-of s)) counts ≡ counts
+pub ports-none : {L : Type 0} (s : List (Atom L)) (counts : List ℕ) → length s ≡ 0 → tallied (port-links (map node-of s)) counts ≡ counts
 unfolding port-links tallied
-ports-none s counts h = ap (λ t. tallied (port-links (map piece-of t)) counts) (at-none s h)
+ports-none s counts h = ap (λ t. tallied (port-links (map node-of t)) counts) (at-none s h)
 
 pub free-one : (s : List FreeLink) (counts : List ℕ) → 0 < length s → tallied (map (λ f. f .link) s) counts ≡ tallied (map (λ f. f .link) (past 1 s)) (bumped (getD s 0 no-link .link) counts)
 unfolding tallied
@@ -116,15 +116,15 @@ is-twice-right s x =
     (λ (h : 8256 ≤ x). and-left (ltb x 8256) _ (le-ltb x 8256 h) ∙ sym (and-left (ltb x 8256) _ (le-ltb x 8256 h)))
     (cases-lt x 8256)
 
-each-ports : {L : Type 0} (p : ℕ → Bool) (atoms : List (Atom L)) → each p (port-links (map piece-of atoms)) ≡ each (λ a. each p (piece-of a .links)) atoms
+each-ports : {L : Type 0} (p : ℕ → Bool) (atoms : List (Atom L)) → each p (port-links (map node-of atoms)) ≡ each (λ a. each p (node-of a .links)) atoms
 unfolding each port-links
 each-ports p [] = refl
 each-ports p (a ∷ atoms) =
-    each-append p (piece-of a .links) (port-links (map piece-of atoms)) ∙ ap (λ b. each p (piece-of a .links) && b) (each-ports p atoms)
+    each-append p (node-of a .links) (port-links (map node-of atoms)) ∙ ap (λ b. each p (node-of a .links) && b) (each-ports p atoms)
 
-pub links-right : {L : Type 0} (atoms : List (Atom L)) (free : List FreeLink) (first second : List ℕ) → first ≡ tallied (port-links (map piece-of atoms)) (replicate 8256 0) → second ≡ tallied (map (λ f. f .link) free) first → (each (λ a. each (is-twice second) (piece-of a .links)) atoms && each (λ f. is-twice second (f .link)) free) ≡ links-test (map piece-of atoms) free
+pub links-right : {L : Type 0} (atoms : List (Atom L)) (free : List FreeLink) (first second : List ℕ) → first ≡ tallied (port-links (map node-of atoms)) (replicate 8256 0) → second ≡ tallied (map (λ f. f .link) free) first → (each (λ a. each (is-twice second) (node-of a .links)) atoms && each (λ f. is-twice second (f .link)) free) ≡ links-test (map node-of atoms) free
 links-right atoms free first second e₁ e₂ =
-    let ports = port-links (map piece-of atoms) in
+    let ports = port-links (map node-of atoms) in
     let links = map (λ f. f .link) free in
     let s = ports ++ links in
     let e : second ≡ tallied s (replicate 8256 0) = e₂ ∙ ap (tallied links) e₁ ∙ sym (tallied-append ports links (replicate 8256 0)) in

@@ -9,7 +9,7 @@ use Rattle.std.specs.Orderings.{Decides}
 use Rattle.std.proofs.shelf.Tests.{and-parts, and-from}
 use Rattle.label.specs.Kind.{Kind}
 use Rattle.plan.specs.declared.tables.Plan.{Plan}
-use Rattle.plan.specs.Model.{model-of, piece-of}
+use Rattle.plan.specs.Model.{model-of, node-of}
 use Rattle.plan.specs.Sound.{Sound, counts-fit}
 use Rattle.plan.specs.Tests.{sound-test, tables-test}
 use Rattle.plan.proofs.Each.{each-map}
@@ -17,8 +17,8 @@ use Rattle.plan.proofs.Each.{each-map}
 pub decided : {L : Type 0} (k : Kind L) (p : Plan L) → Decides (sound-test k p) (Sound k p)
 decided k p =
     let atoms = take (p .«atom_count») (p .atoms .now) in
-    let mine = each-map (λ a. k .mine (a .label)) piece-of atoms in
-    let home = each-map (λ a. ltb (a .cell) (length (model-of p .cells))) piece-of atoms in (
+    let mine = each-map (λ a. k .mine (a .label)) node-of atoms in
+    let home = each-map (λ a. ltb (a .cell) (length (model-of p .cells))) node-of atoms in (
       (λ h.
           let t = and-parts _ _ h in
           let t₁ = and-parts _ _ (t .1) in

@@ -14,7 +14,7 @@ use Rattle.text.proofs.Slices.{past, at-first, at-none}
 use Rattle.label.specs.Kind.{Kind, Lawful, compared}
 use Rattle.plan.specs.declared.tables.Atom.{Atom}
 use Rattle.plan.specs.declared.tables.Census.{Census}
-use Rattle.plan.specs.Model.{Piece, piece-of}
+use Rattle.plan.specs.Model.{Node, node-of}
 use Rattle.plan.specs.Places.{Filed, census-test, counted, labelled, matched, one-more, place}
 use Rattle.plan.specs.Sound.{ascending, atoms-of, each, registered, row-right}
 use Rattle.plan.specs.Tests.{register-test}
@@ -89,15 +89,15 @@ module _ {L : Type 0} (k : Kind L) where
       let both = and-parts (k .mine (getD s 0 x .label)) (labelled k (past 1 s)) (sym (each-here (λ a. k .mine (a .label)) x s h) ∙ e) in
       (ap (λ a. k .mine (a .label)) is ∙ both .0, both .1)
 
-  pub counted-one : (rows : List (Census L)) (x : Atom L) (s : List (Atom L)) (counts : List ℕ) → 0 < length s → x ≡ getD s 0 x → counted k rows (map piece-of s) counts ≡ counted k rows (map piece-of (past 1 s)) (one-more (place k (x .label) rows) counts)
+  pub counted-one : (rows : List (Census L)) (x : Atom L) (s : List (Atom L)) (counts : List ℕ) → 0 < length s → x ≡ getD s 0 x → counted k rows (map node-of s) counts ≡ counted k rows (map node-of (past 1 s)) (one-more (place k (x .label) rows) counts)
   unfolding counted
   counted-one rows x s counts h is =
-      ap (λ t. counted k rows (map piece-of t) counts) (at-first x s h)
-      ∙ ap (λ (a : Atom L). counted k rows (map piece-of (past 1 s)) (one-more (place k (a .label) rows) counts)) (sym is)
+      ap (λ t. counted k rows (map node-of t) counts) (at-first x s h)
+      ∙ ap (λ (a : Atom L). counted k rows (map node-of (past 1 s)) (one-more (place k (a .label) rows) counts)) (sym is)
 
-  pub counted-none : (rows : List (Census L)) (s : List (Atom L)) (counts : List ℕ) → length s ≡ 0 → counted k rows (map piece-of s) counts ≡ counts
+  pub counted-none : (rows : List (Census L)) (s : List (Atom L)) (counts : List ℕ) → length s ≡ 0 → counted k rows (map node-of s) counts ≡ counts
   unfolding counted
-  counted-none rows s counts h = ap (λ t. counted k rows (map piece-of t) counts) (at-none s h)
+  counted-none rows s counts h = ap (λ t. counted k rows (map node-of t) counts) (at-none s h)
 
   -- one row and its count
   pub matched-on : (x : Census L) (rows : List (Census L)) (counts : List ℕ) → 0 < length rows → 0 < length counts → x ≡ getD rows 0 x → matched rows counts ≡ ((ltb 0 (x .atoms) && eqb (x .atoms) (getD counts 0 0)) && matched (past 1 rows) (past 1 counts))
@@ -125,24 +125,24 @@ module _ {L : Type 0} (k : Kind L) where
       (matched-right f rs counts (omega arith) (λ i x w is. e (suc i) x (omega arith) is))
 
   -- the register's three tests, from what the code tests of it
-  pub register-right : (atoms : List (Atom L)) (rows : List (Census L)) (r : Bool) → ascending k rows ≡ true → each (λ c. k .mine (c .label)) rows ≡ true → r ≡ census-test k atoms rows → r ≡ register-test k (map piece-of atoms) rows
+  pub register-right : (atoms : List (Atom L)) (rows : List (Census L)) (r : Bool) → ascending k rows ≡ true → each (λ c. k .mine (c .label)) rows ≡ true → r ≡ census-test k atoms rows → r ≡ register-test k (map node-of atoms) rows
   register-right atoms rows r h m e =
-      let pieces = map piece-of atoms in
-      let said = each (λ c. ltb 0 (c .atoms) && eqb (c .atoms) (atoms-of k (c .label) pieces)) rows in
-      let both = each-both (λ c. k .mine (c .label)) (λ c. ltb 0 (c .atoms) && eqb (c .atoms) (atoms-of k (c .label) pieces)) rows in
-      let here = each-map (λ a. registered k (a .label) rows) piece-of atoms in
+      let nodes = map node-of atoms in
+      let said = each (λ c. ltb 0 (c .atoms) && eqb (c .atoms) (atoms-of k (c .label) nodes)) rows in
+      let both = each-both (λ c. k .mine (c .label)) (λ c. ltb 0 (c .atoms) && eqb (c .atoms) (atoms-of k (c .label) nodes)) rows in
+      let here = each-map (λ a. registered k (a .label) rows) node-of atoms in
       e ∙ ap₂ _&&_ (sym (both ∙ ap (λ v. v && said) m)) (sym here)
-      ∙ sym (ap (λ v. v && (each (row-right k pieces) rows && each (λ a. registered k (a .label) rows) pieces)) h)
+      ∙ sym (ap (λ v. v && (each (row-right k nodes) rows && each (λ a. registered k (a .label) rows) nodes)) h)
 
-  pub register-unknown : (atoms : List (Atom L)) (rows : List (Census L)) (r : Bool) → ascending k rows ≡ true → each (λ c. k .mine (c .label)) rows ≡ false → r ≡ false → r ≡ register-test k (map piece-of atoms) rows
+  pub register-unknown : (atoms : List (Atom L)) (rows : List (Census L)) (r : Bool) → ascending k rows ≡ true → each (λ c. k .mine (c .label)) rows ≡ false → r ≡ false → r ≡ register-test k (map node-of atoms) rows
   register-unknown atoms rows r h m e =
-      let pieces = map piece-of atoms in
-      let said = each (λ c. ltb 0 (c .atoms) && eqb (c .atoms) (atoms-of k (c .label) pieces)) rows in
-      let both = each-both (λ c. k .mine (c .label)) (λ c. ltb 0 (c .atoms) && eqb (c .atoms) (atoms-of k (c .label) pieces)) rows in
-      e ∙ sym (ap₂ (λ v w. v && (w && each (λ a. registered k (a .label) rows) pieces)) h (both ∙ ap (λ v. v && said) m))
+      let nodes = map node-of atoms in
+      let said = each (λ c. ltb 0 (c .atoms) && eqb (c .atoms) (atoms-of k (c .label) nodes)) rows in
+      let both = each-both (λ c. k .mine (c .label)) (λ c. ltb 0 (c .atoms) && eqb (c .atoms) (atoms-of k (c .label) nodes)) rows in
+      e ∙ sym (ap₂ (λ v w. v && (w && each (λ a. registered k (a .label) rows) nodes)) h (both ∙ ap (λ v. v && said) m))
 
   module _ (law : Lawful k) (rows : List (Census L)) (filed : Filed k rows) where
-    counted-right : (atoms : List (Atom L)) (counts : List ℕ) (i : ℕ) (x : Census L) → labelled k atoms ≡ true → length rows ≤ length counts → i < length rows → x ≡ getD rows i x → getD (counted k rows (map piece-of atoms) counts) i 0 ≡ getD counts i 0 + atoms-of k (x .label) (map piece-of atoms)
+    counted-right : (atoms : List (Atom L)) (counts : List ℕ) (i : ℕ) (x : Census L) → labelled k atoms ≡ true → length rows ≤ length counts → i < length rows → x ≡ getD rows i x → getD (counted k rows (map node-of atoms) counts) i 0 ≡ getD counts i 0 + atoms-of k (x .label) (map node-of atoms)
     unfolding counted atoms-of each
     counted-right [] counts i x m h w is = omega arith
     counted-right (a ∷ atoms) counts i x m h w is =
@@ -150,21 +150,21 @@ module _ {L : Type 0} (k : Kind L) where
         let row = place k (a .label) rows in
         let l = length-one-more row counts in
         counted-right atoms (one-more row counts) i x (both .1) (omega arith) w is
-        ∙ ap (λ n. n + atoms-of k (x .label) (map piece-of atoms)) (one-more-at i row counts (omega arith))
-        ∙ add-turn (eqb i row) (getD counts i 0) (atoms-of k (x .label) (map piece-of atoms))
-        ∙ ap (λ v. getD counts i 0 + cond v (suc (atoms-of k (x .label) (map piece-of atoms))) (atoms-of k (x .label) (map piece-of atoms))) (sym (place-here k law (a .label) rows i x (both .0) (filed .known) (filed .order) w is))
+        ∙ ap (λ n. n + atoms-of k (x .label) (map node-of atoms)) (one-more-at i row counts (omega arith))
+        ∙ add-turn (eqb i row) (getD counts i 0) (atoms-of k (x .label) (map node-of atoms))
+        ∙ ap (λ v. getD counts i 0 + cond v (suc (atoms-of k (x .label) (map node-of atoms))) (atoms-of k (x .label) (map node-of atoms))) (sym (place-here k law (a .label) rows i x (both .0) (filed .known) (filed .order) w is))
 
-    length-counted : (pieces : List (Piece L)) (counts : List ℕ) → length (counted k rows pieces counts) ≡ length counts
+    length-counted : (nodes : List (Node L)) (counts : List ℕ) → length (counted k rows nodes counts) ≡ length counts
     unfolding counted
     length-counted [] counts = refl
-    length-counted (a ∷ pieces) counts =
-        length-counted pieces (one-more (place k (a .label) rows) counts) ∙ length-one-more (place k (a .label) rows) counts
+    length-counted (a ∷ nodes) counts =
+        length-counted nodes (one-more (place k (a .label) rows) counts) ∙ length-one-more (place k (a .label) rows) counts
 
-    pub census-right : (atoms : List (Atom L)) (zeros counts : List ℕ) → labelled k atoms ≡ true → length rows ≤ length zeros → ((i : ℕ) → getD zeros i 0 ≡ 0) → counts ≡ counted k rows (map piece-of atoms) zeros → (matched rows counts && each (λ a. registered k (a .label) rows) atoms) ≡ census-test k atoms rows
+    pub census-right : (atoms : List (Atom L)) (zeros counts : List ℕ) → labelled k atoms ≡ true → length rows ≤ length zeros → ((i : ℕ) → getD zeros i 0 ≡ 0) → counts ≡ counted k rows (map node-of atoms) zeros → (matched rows counts && each (λ a. registered k (a .label) rows) atoms) ≡ census-test k atoms rows
     census-right atoms zeros counts m h z e =
-        let longer : length rows ≤ length counts = rw (e) (rw (length-counted (map piece-of atoms) zeros) h) in
+        let longer : length rows ≤ length counts = rw (e) (rw (length-counted (map node-of atoms) zeros) h) in
         ap (λ t. t && each (λ a. registered k (a .label) rows) atoms)
-        (matched-right (λ c. atoms-of k (c .label) (map piece-of atoms)) rows counts longer
+        (matched-right (λ c. atoms-of k (c .label) (map node-of atoms)) rows counts longer
         (λ i x w is. let r = counted-right atoms zeros i x m h w is in let n = z i in ap (λ t. getD t i 0) e ∙ omega arith))
 
     pub found-less : (l : L) (i : ℕ) (x : Census L) → k .mine l ≡ true → i < length rows → x ≡ getD rows i x → compared (k .lower) (x .label) l ≡ Less → i < place k l rows

@@ -16,24 +16,24 @@ use Rattle.plan.specs.declared.tables.Census.{Census}
 use Rattle.plan.specs.declared.tables.Plan.{Plan}
 
 -- an atom with the links at its ports, and no others
-pub record Piece (L : Type 0) : Type 0 where
+pub record Node (L : Type 0) : Type 0 where
   pub label : L
   pub cell : ℕ
   pub links : List ℕ
 
 -- a plan with nothing free in it
 pub record Model (L : Type 0) : Type 0 where
-  pub atoms : List (Piece L)
+  pub atoms : List (Node L)
   pub cells : List Cell
   pub free : List FreeLink
   pub register : List (Census L)
 
-abbrev pub piece-of : {L : Type 0} → Atom L → Piece L
-piece-of a = record { label = a .label; cell = a .cell; links = take (a .arity) (a .links) }
+abbrev pub node-of : {L : Type 0} → Atom L → Node L
+node-of a = record { label = a .label; cell = a .cell; links = take (a .arity) (a .links) }
 
 abbrev pub model-of : {L : Type 0} → Plan L → Model L
 model-of p = record {
-  atoms = map piece-of (take (p .«atom_count») (p .atoms .now));
+  atoms = map node-of (take (p .«atom_count») (p .atoms .now));
   cells = take (p .«cell_count») (p .cells .now);
   free = take (p .«free_count») (p .free .now);
   register = take (p .«label_count») (p .register .now);

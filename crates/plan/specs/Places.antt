@@ -8,7 +8,7 @@ use lib.ListN.{length, getD, set}
 use Rattle.label.specs.Kind.{Kind}
 use Rattle.plan.specs.declared.tables.Atom.{Atom}
 use Rattle.plan.specs.declared.tables.Census.{Census}
-use Rattle.plan.specs.Model.{Piece, piece-of}
+use Rattle.plan.specs.Model.{Node, node-of}
 use Rattle.plan.specs.Sound.{alike, ascending, atoms-of, each, registered}
 
 -- the first row with a label, or the number of rows where none has it
@@ -21,7 +21,7 @@ abbrev pub one-more : ℕ → List ℕ → List ℕ
 one-more row counts = cond (ltb row (length counts)) (set counts row (getD counts row 0 + 1)) counts
 
 -- each atom counted at the row of its label
-unfoldable pub counted : {L : Type 0} → Kind L → List (Census L) → List (Piece L) → List ℕ → List ℕ
+unfoldable pub counted : {L : Type 0} → Kind L → List (Census L) → List (Node L) → List ℕ → List ℕ
 counted k register [] counts = counts
 counted k register (a ∷ atoms) counts = counted k register atoms (one-more (place k (a .label) register) counts)
 
@@ -43,5 +43,5 @@ labelled k atoms = each (λ a. k .mine (a .label)) atoms
 -- the rows say the numbers of their atoms, and no atom's label is missing
 abbrev pub census-test : {L : Type 0} → Kind L → List (Atom L) → List (Census L) → Bool
 census-test k atoms register =
-    each (λ c. ltb 0 (c .atoms) && eqb (c .atoms) (atoms-of k (c .label) (map piece-of atoms))) register
+    each (λ c. ltb 0 (c .atoms) && eqb (c .atoms) (atoms-of k (c .label) (map node-of atoms))) register
     && each (λ a. registered k (a .label) register) atoms

@@ -14,7 +14,7 @@ use Rattle.text.specs.Shapes.{is-name}
 use Rattle.plan.specs.declared.tables.Cell.{Cell}
 use Rattle.plan.specs.declared.tables.Census.{Census}
 use Rattle.plan.specs.declared.tables.Plan.{Plan}
-use Rattle.plan.specs.Model.{Piece, Model, model-of}
+use Rattle.plan.specs.Model.{Node, Model, model-of}
 
 -- every row passes
 unfoldable pub each : {A : Type 0} → (A → Bool) → List A → Bool
@@ -98,7 +98,7 @@ abbrev pub all-lead : List Cell → Bool
 all-lead cs = each (leads depth-limit cs) (rows 0 (length cs))
 
 -- the links at ports, then those of free links: the ends of the plan's links
-unfoldable pub port-links : {L : Type 0} → List (Piece L) → List ℕ
+unfoldable pub port-links : {L : Type 0} → List (Node L) → List ℕ
 port-links [] = []
 port-links (a ∷ atoms) = a .links ++ port-links atoms
 
@@ -114,7 +114,7 @@ abbrev pub alike : {L : Type 0} → Kind L → L → L → Bool
 alike k a b = not (k .lower a b) && not (k .lower b a)
 
 -- how many atoms have a label
-unfoldable pub atoms-of : {L : Type 0} → Kind L → L → List (Piece L) → ℕ
+unfoldable pub atoms-of : {L : Type 0} → Kind L → L → List (Node L) → ℕ
 atoms-of k l [] = 0
 atoms-of k l (a ∷ atoms) = cond (alike k l (a .label)) (suc (atoms-of k l atoms)) (atoms-of k l atoms)
 
@@ -133,7 +133,7 @@ registered k l [] = false
 registered k l (c ∷ cs) = alike k l (c .label) || registered k l cs
 
 -- a row of the register: a label of the kind that some atom has, with the number of its atoms
-abbrev pub row-right : {L : Type 0} → Kind L → List (Piece L) → Census L → Bool
+abbrev pub row-right : {L : Type 0} → Kind L → List (Node L) → Census L → Bool
 row-right k atoms c = k .mine (c .label) && (ltb 0 (c .atoms) && eqb (c .atoms) (atoms-of k (c .label) atoms))
 
 -- a field for each sentence of the rule

@@ -6,7 +6,7 @@ use label::kind::Label;
 ghost use mathlib.Core.Path.{_≡_};
 ghost use mathlib.Core.List.{map};
 ghost use lib.ListN.{take};
-ghost use Rattle.plan.specs.Model.{piece-of};
+ghost use Rattle.plan.specs.Model.{node-of};
 ghost use Rattle.plan.specs.Sound.{each, port-links};
 ghost use Rattle.plan.specs.Tally.{bumped, tallied, is-twice};
 ghost use Rattle.plan.specs.Tests.{links-test};
@@ -46,7 +46,7 @@ fn tally(links: &[u16], counts: &mut [u8])
 
 /// Counts the ends at ports.
 fn tally_ports<L: Label>(atoms: &[Atom<L>], counts: &mut [u8])
-    ensures { λ _. ⌜ now (counts .exit) ≡ tallied (port-links (map piece-of (now (atoms .entry)))) (now (counts .entry)) ⌝ }
+    ensures { λ _. ⌜ now (counts .exit) ≡ tallied (port-links (map node-of (now (atoms .entry)))) (now (counts .entry)) ⌝ }
 {
     let mut rest = atoms;
     while let [atom, after @ ..] = rest {
@@ -90,7 +90,7 @@ fn all_twice(links: &[u16], counts: &[u8]) -> bool
 
 /// Whether every link at a port was counted twice.
 fn ports_twice<L: Label>(atoms: &[Atom<L>], counts: &[u8]) -> bool
-    ensures { λ r. ⌜ r ≡ each (λ a. each (is-twice (now (counts .entry))) (piece-of a .links)) (now (atoms .entry)) ⌝ }
+    ensures { λ r. ⌜ r ≡ each (λ a. each (is-twice (now (counts .entry))) (node-of a .links)) (now (atoms .entry)) ⌝ }
 {
     let mut rest = atoms;
     while let [atom, after @ ..] = rest {
@@ -118,7 +118,7 @@ fn free_twice(free: &[FreeLink], counts: &[u8]) -> bool
 
 /// Whether every link is low enough and has two ends.
 pub(crate) fn links_sound<L: Label>(atoms: &[Atom<L>], free: &[FreeLink]) -> bool
-    ensures { λ r. ⌜ r ≡ links-test (map piece-of (now (atoms .entry))) (now (free .entry)) ⌝ }
+    ensures { λ r. ⌜ r ≡ links-test (map node-of (now (atoms .entry))) (now (free .entry)) ⌝ }
 {
     let mut counts = [0u8; LINKS];
     tally_ports(atoms, &mut counts);

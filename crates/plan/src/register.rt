@@ -11,7 +11,7 @@ ghost use mathlib.Core.List.{map};
 ghost use Prim.Native.Nat.{ℕ, _≤_};
 ghost use lib.Dec.{eqb, ltb};
 ghost use lib.ListN.{getD, length};
-ghost use Rattle.plan.specs.Model.{piece-of};
+ghost use Rattle.plan.specs.Model.{node-of};
 ghost use Rattle.plan.specs.Places.{Filed, census-test, counted, labelled, matched, place};
 ghost use Rattle.plan.specs.Sound.{ascending, each, first-above, registered};
 ghost use Rattle.plan.specs.Tests.{register-test};
@@ -103,7 +103,7 @@ fn tally_labels<L: Label>(atoms: &[Atom<L>], rows: &[Census<L>], counts: &mut [u
     requires filed { ⌜ Filed (L·Label .kind) (now rows) ⌝ }
     requires mine { ⌜ labelled (L·Label .kind) (now atoms) ≡ true ⌝ }
     requires empty { ⌜ ((i : ℕ) → getD (now counts) i 0 ≡ 0) ⌝ }
-    ensures { λ _. ⌜ now (counts .exit) ≡ counted (L·Label .kind) (now (rows .entry)) (map piece-of (now (atoms .entry))) (now (counts .entry)) ⌝ }
+    ensures { λ _. ⌜ now (counts .exit) ≡ counted (L·Label .kind) (now (rows .entry)) (map node-of (now (atoms .entry))) (now (counts .entry)) ⌝ }
 {
     let mut rest = atoms;
     while let [atom, after @ ..] = rest {
@@ -158,7 +158,7 @@ fn census_right<L: Label>(atoms: &[Atom<L>], rows: &[Census<L>]) -> bool
 pub(crate) fn register_sound<L: Label>(atoms: &[Atom<L>], rows: &[Census<L>]) -> bool
     requires mine { ⌜ labelled (L·Label .kind) (now atoms) ≡ true ⌝ }
     requires room { ⌜ length (now rows) ≤ 1024 ⌝ }
-    ensures { λ r. ⌜ r ≡ register-test (L·Label .kind) (map piece-of (now (atoms .entry))) (now (rows .entry)) ⌝ }
+    ensures { λ r. ⌜ r ≡ register-test (L·Label .kind) (map node-of (now (atoms .entry))) (now (rows .entry)) ⌝ }
 {
     if !ascends(rows) {
         return false;

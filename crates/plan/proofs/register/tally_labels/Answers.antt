@@ -5,7 +5,7 @@ use mathlib.Core.List.{map}
 use Prim.Native.Nat.{_<_}
 use lib.ListN.{length}
 use Rattle.text.proofs.Slices.{past}
-use Rattle.plan.specs.Model.{piece-of}
+use Rattle.plan.specs.Model.{node-of}
 use Rattle.plan.specs.Places.{counted, place}
 use Rattle.plan.proofs.Census.{past-shorter}
 use Rattle.plan.proofs.Tallying.{item-mine, counted-one, counted-none, one-more-in, one-more-out, room-left}
@@ -28,7 +28,7 @@ loop-rest-again-then-row-counts g c =
     let shorter = past-shorter s some in (
       item-mine k x s some (c .atom-item .is) (c .loop-rest .inv .0) .1,
       room-left counts row (length (past 1 s)) (length (c .args .atoms .now)) inside (λ i. let h = c .loop-rest .inv .1 i in omega arith),
-      sym (counted-one k rows x s counts some (c .atom-item .is) ∙ ap (counted k rows (map piece-of (past 1 s))) (one-more-in (place k (x .label) rows) row counts (c .find-row-row .ensures) inside))
+      sym (counted-one k rows x s counts some (c .atom-item .is) ∙ ap (counted k rows (map node-of (past 1 s))) (one-more-in (place k (x .label) rows) row counts (c .find-row-row .ensures) inside))
           ∙ c .loop-rest .inv .2,
     )
 
@@ -44,7 +44,7 @@ loop-rest-again g c =
     let shorter = past-shorter s some in (
       item-mine k x s some (c .atom-item .is) (c .loop-rest .inv .0) .1,
       (λ i. let h = c .loop-rest .inv .1 i in omega arith),
-      sym (counted-one k rows x s counts some (c .atom-item .is) ∙ ap (counted k rows (map piece-of (past 1 s))) (one-more-out (place k (x .label) rows) row counts (c .find-row-row .ensures) (search needs)))
+      sym (counted-one k rows x s counts some (c .atom-item .is) ∙ ap (counted k rows (map node-of (past 1 s))) (one-more-out (place k (x .label) rows) row counts (c .find-row-row .ensures) (search needs)))
           ∙ c .loop-rest .inv .2,
     )
 
