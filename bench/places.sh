@@ -6,10 +6,7 @@ set -eu
 cd "$(dirname "$0")/.."
 reps=${1:-5}
 lines=500
-program=target/bin/bigvosk
-[ -x "$program" ] || rt check bigvosk
-scratch=$(mktemp -d)
-trap 'rm -rf "$scratch"' EXIT
+. bench/timing.sh
 
 # script ORDER: a script of places lines. The seeds are far apart, so that the strides differ.
 script() {
@@ -21,23 +18,8 @@ script() {
   }'
 }
 
-# micros FILE: the time of one run, in microseconds.
-micros() {
-  local begun ended
-  begun=$(date +%s%N)
-  "$program" "$1" > "$scratch/out"
-  ended=$(date +%s%N)
-  echo $(((ended - begun) / 1000))
-}
-
 for order in written shuffled; do
   script "$order" > "$scratch/$order"
   printf '4096 places, %s:' "$order"
-  least=
-  for _ in $(seq "$reps"); do
-    t=$(($(micros "$scratch/$order") / lines))
-    printf ' %s' "$t"
-    if [ -z "$least" ] || [ "$t" -lt "$least" ]; then least=$t; fi
-  done
-  printf ' microseconds, least %s\n' "$least"
+  times "$scratch/$order" "$lines"
 done

@@ -5,10 +5,7 @@
 set -eu
 cd "$(dirname "$0")/.."
 reps=${1:-5}
-program=target/bin/bigvosk
-[ -x "$program" ] || rt check bigvosk
-scratch=$(mktemp -d)
-trap 'rm -rf "$scratch"' EXIT
+. bench/timing.sh
 
 # sheet BYTES: a read command with a sheet of at most so many bytes.
 sheet() {
@@ -26,25 +23,10 @@ sheet() {
   }'
 }
 
-# micros FILE: the time of one run, in microseconds.
-micros() {
-  local begun ended
-  begun=$(date +%s%N)
-  "$program" "$1" > "$scratch/out"
-  ended=$(date +%s%N)
-  echo $(((ended - begun) / 1000))
-}
-
 for bytes in 30000 60000; do
   sheet "$bytes" > "$scratch/$bytes"
   printf '%s bytes:' "$(($(wc -c < "$scratch/$bytes") - 6))"
-  least=
-  for _ in $(seq "$reps"); do
-    t=$(micros "$scratch/$bytes")
-    printf ' %s' "$t"
-    if [ -z "$least" ] || [ "$t" -lt "$least" ]; then least=$t; fi
-  done
-  printf ' microseconds, least %s\n' "$least"
+  times "$scratch/$bytes" 1
   sed -n 2p "$scratch/out"
   [ "$bytes" = 30000 ] && first=$least
 done
