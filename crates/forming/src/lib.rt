@@ -8,7 +8,7 @@ use label::kind::Label;
 
 /// A text without fault has one form, whose items say the events of the text in their order.
 pub fn form_stands<L: Label>() -> u8
-    ensures { FormLaw kind }
+    ensures { FormLaw L.kind }
 {
     0
 }
@@ -16,7 +16,7 @@ pub fn form_stands<L: Label>() -> u8
 /// Each atom and each cell of a text is on the plan once after it, in the cell of the braces directly around it: an atom with
 /// its label and its names' links, a cell with its set. The names that the text opens follow the open names that stay.
 pub fn place_stands<L: Label>() -> u8
-    ensures { PlaceLaw kind }
+    ensures { PlaceLaw L.kind }
 {
     0
 }
@@ -24,7 +24,7 @@ pub fn place_stands<L: Label>() -> u8
 /// After a text two ends lie on one link exactly where its connectors, and the names that close a free link, join what they hang by:
 /// an end that was there by its old link, an end that the text writes by its name.
 pub fn join_stands<L: Label>() -> u8
-    ensures { JoinLaw kind }
+    ensures { JoinLaw L.kind }
 {
     0
 }
@@ -32,7 +32,7 @@ pub fn join_stands<L: Label>() -> u8
 /// A text with some connectors turned, and with other names for those that stand twice, gives the same plan but for the numbers of links
 /// and the rows of free links.
 pub fn rewriting_stands<L: Label>() -> u8
-    ensures { RewritingLaw kind }
+    ensures { RewritingLaw L.kind }
 {
     0
 }

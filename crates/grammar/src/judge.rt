@@ -18,7 +18,7 @@ use text::packed::Name;
 
 /// A word in its place.
 fn judge_word<L: Label>(stand: &Stand, bytes: &[u8]) -> Result<Option<Event<L>>, Refusal>
-    ensures { (ns : List Standing) → result ≡ judged kind (state_of stand.now ns) (word bytes.now) }
+    ensures { (ns : List Standing) → result ≡ judged L.kind (state_of stand.now ns) (word bytes.now) }
 {
     match stand.phase {
         Phase::Start | Phase::Item => match L::read(Form::Word, bytes) {
@@ -31,7 +31,7 @@ fn judge_word<L: Label>(stand: &Stand, bytes: &[u8]) -> Result<Option<Event<L>>,
 
 /// A line name in its place, that stood some times before.
 fn judge_name<L: Label>(stand: &Stand, name: Name, times: u8) -> Result<Option<Event<L>>, Refusal>
-    ensures { (ns : List Standing) → times ≡ standings name ns → result ≡ judged kind (state_of stand.now ns) (named name) }
+    ensures { (ns : List Standing) → times ≡ standings name ns → result ≡ judged L.kind (state_of stand.now ns) (named name) }
 {
     match stand.phase {
         Phase::Ports(n) if n >= PORT_LIMIT => Err(Refusal::NinthPort),
@@ -64,7 +64,7 @@ fn judge_name<L: Label>(stand: &Stand, name: Name, times: u8) -> Result<Option<E
 
 /// An opening brace in its place.
 fn judge_open<L: Label>(stand: &Stand) -> Result<Option<Event<L>>, Refusal>
-    ensures { (ns : List Standing) → result ≡ judged kind (state_of stand.now ns) open_brace }
+    ensures { (ns : List Standing) → result ≡ judged L.kind (state_of stand.now ns) open_brace }
 {
     match stand.phase {
         Phase::Start | Phase::Item => {
@@ -80,7 +80,7 @@ fn judge_open<L: Label>(stand: &Stand) -> Result<Option<Event<L>>, Refusal>
 
 /// A closing brace in its place.
 fn judge_close<L: Label>(stand: &Stand) -> Result<Option<Event<L>>, Refusal>
-    ensures { (ns : List Standing) → result ≡ judged kind (state_of stand.now ns) close_brace }
+    ensures { (ns : List Standing) → result ≡ judged L.kind (state_of stand.now ns) close_brace }
 {
     match stand.phase {
         Phase::Start | Phase::Label | Phase::After => {
@@ -96,7 +96,7 @@ fn judge_close<L: Label>(stand: &Stand) -> Result<Option<Event<L>>, Refusal>
 
 /// An `@` in its place.
 fn judge_at<L: Label>(stand: &Stand) -> Result<Option<Event<L>>, Refusal>
-    ensures { (ns : List Standing) → result ≡ judged kind (state_of stand.now ns) at_sign }
+    ensures { (ns : List Standing) → result ≡ judged L.kind (state_of stand.now ns) at_sign }
 {
     match stand.phase {
         Phase::Start | Phase::Item => {
@@ -129,7 +129,7 @@ fn set_number(bytes: &[u8]) -> Option<u8>
 
 /// A number in its place: a set, or a label.
 fn judge_number<L: Label>(stand: &Stand, bytes: &[u8]) -> Result<Option<Event<L>>, Refusal>
-    ensures { (ns : List Standing) → result ≡ judged kind (state_of stand.now ns) (number bytes.now) }
+    ensures { (ns : List Standing) → result ≡ judged L.kind (state_of stand.now ns) (number bytes.now) }
 {
     match stand.phase {
         Phase::Set => match set_number(bytes) {
@@ -151,7 +151,7 @@ pub fn judge<L: Label>(
     sign: Sign<'_>,
     times: u8,
 ) -> Result<Option<Event<L>>, Refusal>
-    ensures { (ns : List Standing) → times ≡ stood (state_of stand.now ns) (seen sign.entry) → result ≡ judged kind (state_of stand.now ns) (seen sign.entry) }
+    ensures { (ns : List Standing) → times ≡ stood (state_of stand.now ns) (seen sign.entry) → result ≡ judged L.kind (state_of stand.now ns) (seen sign.entry) }
 {
     match (sign, stand.phase) {
         (Sign::Word(bytes), _) => judge_word(stand, bytes),

@@ -111,7 +111,7 @@ impl<'t> Reader<'t> {
     fn take<L: Label>(&mut self, found: Found<'t>) -> Result<Option<Event<L>>, Fault>
         requires on { found.next + length found.rest.now ≡ self.old.at + length self.old.rest.now }
         requires ahead { length found.rest.now < length self.old.rest.now }
-        ensures { Taken kind self.old found.entry result self.new }
+        ensures { Taken L.kind self.old found.entry result self.new }
     {
         let sign = sign_of(found.token);
         let (row, times) = look(&self.stand, &self.names, sign);
@@ -132,8 +132,8 @@ impl<'t> Reader<'t> {
 
     /// The next event, or none at the text's end.
     pub fn next<L: Label>(&mut self) -> Result<Option<Event<L>>, Fault>
-        ensures is { given kind result self.new ≡ left kind self.old }
-        ensures goes { Goes kind result self.old self.new }
+        ensures is { given L.kind result self.new ≡ left L.kind self.old }
+        ensures goes { Goes L.kind result self.old self.new }
         ensures comes { ComesTo result self.old self.new }
     {
         'tokens: loop {

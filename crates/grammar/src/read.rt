@@ -46,9 +46,9 @@ fn count<L: Label>(sheet: Sheet, event: Event<L>) -> Sheet
 
 /// Reads a hang and changes nothing: what it holds, or its fault.
 pub fn read<L: Label>(text: &[u8]) -> Result<Sheet, Fault>
-    ensures is { result ≡ sheet_of kind text.now }
-    ensures fault { refusal_of result ≡ reading_fault kind text.now }
-    ensures laws { ReadingLaws kind text.now }
+    ensures is { result ≡ sheet_of L.kind text.now }
+    ensures fault { refusal_of result ≡ reading_fault L.kind text.now }
+    ensures laws { ReadingLaws L.kind text.now }
 {
     limit_length(text)?;
     let mut reader = Reader::new(text, 0);

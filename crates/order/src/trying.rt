@@ -35,7 +35,7 @@ pub trait Order {
 
 /// Writes the places of as many things as `out` has room for, in the order of trying. More than 4,096 are all answered by 0.
 pub fn places<O: Order>(order: &O, out: &mut [u16])
-    ensures listed { out.new ≡ listing (meaning.place order.now) (length out.old) }
+    ensures listed { out.new ≡ listing (O.meaning.place order.now) (length out.old) }
     ensures tried { AllTried out.new }
 {
     let row = order.row(out.len());
@@ -46,7 +46,7 @@ pub fn places<O: Order>(order: &O, out: &mut [u16])
 
 /// Every order reaches all: to try each k below n is to try each of n things.
 pub fn reach_stands<O: Order>(order: &O) -> u8
-    ensures { Reaches (meaning.place order.now) }
+    ensures { Reaches (O.meaning.place order.now) }
 {
     0
 }

@@ -22,28 +22,28 @@ pub fn reordering_stands<L: Label>() -> u8
 
 /// On a sound plan every link has two ends, each a port of an atom or a free link, and no third.
 pub fn ends_stand<L: Label>() -> u8
-    ensures { LinksPaired kind }
+    ensures { LinksPaired L.kind }
 {
     0
 }
 
 /// A sound plan stays sound where its links are renamed within the limit.
 pub fn sound_renamed<L: Label>() -> u8
-    ensures { RenamingSound kind }
+    ensures { RenamingSound L.kind }
 {
     0
 }
 
 /// Plans that are the same but for links show the same text, and get the same answer from show.
 pub fn shown_renamed<L: Label>() -> u8
-    ensures { RenamingShown kind }
+    ensures { RenamingShown L.kind }
 {
     0
 }
 
 /// Sound plans that are the same but for links are so after a text is hung on them, and get the same answer from hang.
 pub fn hung_renamed<L: Label>() -> u8
-    ensures { RenamingHung kind }
+    ensures { RenamingHung L.kind }
 {
     0
 }

@@ -15,11 +15,11 @@ returns c =
     (c.as-bytes.ensures.value ∙ c.in-ok-line.ensures) c.number.ensures c.layer_name.ensures c.layer.ensures in
     elim c.if-is-pointed.branch [
       | then-is-pointed+in-ok-add-pointing w ↦
-          ap vec_items w.out_is
+          ap vec_items w.out-is
           ∙ pointed f text line out (vec_items c.add.new.out) (vec_items w.add-pointing.new.out)
           (sym c.is-pointed.ensures ∙ w.if-is-pointed.true) is c.in-ok-add.ensures w.in-ok-add-pointing.ensures
       | else-is-pointed w ↦
-          ap vec_items w.out_is
+          ap vec_items w.out-is
           ∙ unpointed f text line out (vec_items c.add.new.out)
           (sym c.is-pointed.ensures ∙ w.if-is-pointed.false) is c.in-ok-add.ensures
     ]

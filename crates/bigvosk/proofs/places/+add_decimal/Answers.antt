@@ -11,7 +11,7 @@ returns t c =
     let pushed : vec_items c.push.new.self ≡ mid ++ ((48 + n % 10) ∷ []) = search rules in
     elim c.if-n-ge10.branch [
       | then-n-ge10+in-ok-add-decimal w ↦
-          pushed ∙ decimal_more out mid n w.if-n-ge10.true (omega arith) (ap vec_items w.out_is ∙ w.in-ok-add-decimal.ensures)
+          pushed ∙ decimal_more out mid n w.if-n-ge10.true (omega arith) (ap vec_items w.out-is ∙ w.in-ok-add-decimal.ensures)
       | else-n-ge10 w ↦
-          pushed ∙ ap (λ o. vec_items o ++ ((48 + n % 10) ∷ [])) w.out_is ∙ decimal_one out n w.if-n-ge10.false
+          pushed ∙ ap (λ o. vec_items o ++ ((48 + n % 10) ∷ [])) w.out-is ∙ decimal_one out n w.if-n-ge10.false
     ]

@@ -4,14 +4,14 @@ use Rattle.grammar.specs.Names.{names_of}
 use Rattle.grammar.specs.Reading.{unless_lone}
 use Rattle.grammar.proofs.pull.finish.Goals as goal
 
-pub returns-then-not-may-end : goal.returns-then-not-may-end
-returns-then-not-may-end g c =
-    record { is = sym (cond-false _ _ _ (sym (c.may_end.ensures (names_of c.args.names.now)) ∙ c.if-not-may-end.true)) }
+pub returns-then-not-may_end : goal.returns-then-not-may_end
+returns-then-not-may_end g c =
+    record { is = sym (cond-false _ _ _ (sym (c.may_end.ensures (names_of c.args.names.now)) ∙ c.if-not-may_end.true)) }
 
 pub returns-in-None : goal.returns-in-None
 returns-in-None g c =
-    record { is = sym (cond-true _ _ _ (sym (c.may_end.ensures (names_of c.args.names.now)) ∙ c.if-not-may-end.false) ∙ ap unless_lone (sym c.in_None.ensures)) }
+    record { is = sym (cond-true _ _ _ (sym (c.may_end.ensures (names_of c.args.names.now)) ∙ c.if-not-may_end.false) ∙ ap unless_lone (sym c.in-None.ensures)) }
 
 pub returns-in-Some : goal.returns-in-Some
 returns-in-Some g c =
-    record { is = sym (cond-true _ _ _ (sym (c.may_end.ensures (names_of c.args.names.now)) ∙ c.if-not-may-end.false) ∙ ap unless_lone (sym c.in_Some.ensures)) }
+    record { is = sym (cond-true _ _ _ (sym (c.may_end.ensures (names_of c.args.names.now)) ∙ c.if-not-may_end.false) ∙ ap unless_lone (sym c.in-Some.ensures)) }

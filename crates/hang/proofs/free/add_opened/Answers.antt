@@ -24,12 +24,12 @@ loop-i-preserved c =
       | then-opens w ↦ (
         rw (w.count-is, w.push-count.ensures.count) (omega arith),
         λ xs f.
-            rw (w.count-is, w.out_is, w.push-count.ensures.count, w.push-count.ensures.rows)
+            rw (w.count-is, w.out-is, w.push-count.ensures.count, w.push-count.ensures.rows)
             (opened_one free ss links i c.loop-i.out n xs c.loop-i-test.true near (sym c.opens.ensures ∙ w.if-opens.true) (c.loop-i.invariant.1 xs f)),
       )
       | else-opens w ↦ (
         rw w.count-is (omega arith),
-        λ xs f. rw (w.count-is, w.out_is) (opened_skip free ss links i c.loop-i.out n xs c.loop-i-test.true near (sym c.opens.ensures ∙ w.if-opens.false) (c.loop-i.invariant.1 xs f)),
+        λ xs f. rw (w.count-is, w.out-is) (opened_skip free ss links i c.loop-i.out n xs c.loop-i-test.true near (sym c.opens.ensures ∙ w.if-opens.false) (c.loop-i.invariant.1 xs f)),
       )
     ]
 

@@ -23,12 +23,12 @@ loop-i-preserved c =
     elim c.if-not-stands-once.branch [
       | then-not-stands-once w ↦ (
         rw (w.n-is, w.push-n.ensures.count) (omega arith),
-        rw (w.n-is, w.out_is, w.push-n.ensures.count, w.push-n.ensures.rows)
+        rw (w.n-is, w.out-is, w.push-n.ensures.count, w.push-n.ensures.rows)
             (kept_one no_link (stays ns) xs i c.loop-i.out n c.loop-i-test.true (ap not (sym c.stands_once.ensures ∙ w.if-not-stands-once.true)) c.loop-i.invariant.1),
       )
       | else-not-stands-once w ↦ (
         rw w.n-is (omega arith),
-        rw (w.n-is, w.out_is)
+        rw (w.n-is, w.out-is)
             (left_one no_link (stays ns) xs i c.loop-i.out n c.loop-i-test.true (ap not (sym c.stands_once.ensures ∙ w.if-not-stands-once.false)) c.loop-i.invariant.1),
       )
     ]

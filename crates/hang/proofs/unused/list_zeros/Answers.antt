@@ -19,10 +19,10 @@ loop-x-preserved c =
     elim c.if-counts-x-eq0.branch [
       | then-counts-x-eq0 w ↦ (
         rw (w.n-is, w.push-n.ensures.count) (omega arith),
-        rw (w.n-is, w.out_is, w.push-n.ensures.count, w.push-n.ensures.rows, kept_yes p x (eq-eqb _ 0 w.if-counts-x-eq0.true)) (filled_more out n (filter p (rows 0 x)) x c.loop-x.invariant.1),
+        rw (w.n-is, w.out-is, w.push-n.ensures.count, w.push-n.ensures.rows, kept_yes p x (eq-eqb _ 0 w.if-counts-x-eq0.true)) (filled_more out n (filter p (rows 0 x)) x c.loop-x.invariant.1),
       )
       | else-counts-x-eq0 w ↦ (
         rw w.n-is (omega arith),
-        rw (w.n-is, w.out_is, kept_no p x (ne_eqb _ 0 w.if-counts-x-eq0.false)) c.loop-x.invariant.1,
+        rw (w.n-is, w.out-is, kept_no p x (ne_eqb _ 0 w.if-counts-x-eq0.false)) c.loop-x.invariant.1,
       )
     ]

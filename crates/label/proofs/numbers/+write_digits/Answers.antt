@@ -3,8 +3,8 @@ use Rattle.label.proofs.Writing.{decimal_room, front_room, write_one, write_more
 use Rattle.label.proofs.numbers.+write_digits.Goals as goal
 use Rattle.label.proofs.numbers.+write_digits.Goals.{then-n-ge10, else-n-ge10}
 
-pub write-digits-place-requires : goal.write-digits-place-requires
-write-digits-place-requires t c =
+pub write_digits-place-requires : goal.write_digits-place-requires
+write_digits-place-requires t c =
     let small : c.args.n < 2 ^ 64 = omega arith in
     let r = front_room c.args.n c.args.at 11 c.if-n-ge10.true small c.requires in
     (omega arith, omega arith)
@@ -15,7 +15,7 @@ bounds-out-place t c =
     elim c.if-n-ge10.branch [
       | then-n-ge10 w ↦
           let r = front_room c.args.n c.args.at 11 w.if-n-ge10.true small c.requires in
-          omega (arith, w.place-is, w.write-digits-place.ensures.end)
+          omega (arith, w.place-is, w.write_digits-place.ensures.end)
       | else-n-ge10 w ↦
           let r = decimal_room c.args.n c.args.at 11 small c.requires in
           omega (arith, w.place-is)
@@ -30,13 +30,13 @@ returns t c =
     elim c.if-n-ge10.branch [
       | then-n-ge10 w ↦
           let m = write_more n at c.if-n-ge10.place old c.if-n-ge10.out w.if-n-ge10.true small
-          (w.place-is ∙ w.write-digits-place.ensures.end) (w.out_is ∙ w.write-digits-place.ensures.bytes) (omega arith) in
+          (w.place-is ∙ w.write_digits-place.ensures.end) (w.out-is ∙ w.write_digits-place.ensures.bytes) (omega arith) in
           record { end = m.1; bytes = m.0 }
       | else-n-ge10 w ↦
           let r = decimal_room n at 11 small c.requires in
           let m = write_one n at old w.if-n-ge10.false (omega arith) in
-          record { end = ap (λ p. p + 1) w.place-is ∙ m.1; bytes = ap₂ (λ o p. set o p (48 + n % 10)) w.out_is w.place-is ∙ m.0 }
+          record { end = ap (λ p. p + 1) w.place-is ∙ m.1; bytes = ap₂ (λ o p. set o p (48 + n % 10)) w.out-is w.place-is ∙ m.0 }
     ]
 
-pub overflow-add-result : goal.overflow-add-result
-overflow-add-result t c = omega (arith, (returns t c).end, c.requires)
+pub overflow_add-result : goal.overflow_add-result
+overflow_add-result t c = omega (arith, (returns t c).end, c.requires)

@@ -2,8 +2,8 @@ use Rattle.std.proofs.Common.{sym, ◌∙◌, rules}
 use Rattle.plan.proofs.Each.{item_pass, item_fail, each_none}
 use Rattle.plan.proofs.atoms.labels_known.Goals as goal
 
-pub returns-then-not-is-label : goal.returns-then-not-is-label
-returns-then-not-is-label g c = sym (item_fail (λ a. g.L.Label.kind.mine a.label) c.atom-item.result c.loop-rest.rest.now (search rules) c.atom-item.is (search rules)) ∙ c.loop-rest.invariant
+pub returns-then-not-is_label : goal.returns-then-not-is_label
+returns-then-not-is_label g c = sym (item_fail (λ a. g.L.Label.kind.mine a.label) c.atom-item.result c.loop-rest.rest.now (search rules) c.atom-item.is (search rules)) ∙ c.loop-rest.invariant
 
 pub loop-rest-preserved : goal.loop-rest-preserved
 loop-rest-preserved g c = sym (item_pass (λ a. g.L.Label.kind.mine a.label) c.atom-item.result c.loop-rest.rest.now (search rules) c.atom-item.is (search rules)) ∙ c.loop-rest.invariant

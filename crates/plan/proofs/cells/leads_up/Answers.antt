@@ -16,7 +16,7 @@ returns-in-None c =
 
 pub loop-step-preserved : goal.loop-step-preserved
 loop-step-preserved c =
-    sym (one_up (16 - c.loop-step.step) (16 - (c.loop-step.step + 1)) c.args.cells.now c.loop-step.at c.in_Some.parent (omega arith) c.if-at-eq0.false c.in_Some.is)
+    sym (one_up (16 - c.loop-step.step) (16 - (c.loop-step.step + 1)) c.args.cells.now c.loop-step.at c.in-Some.parent (omega arith) c.if-at-eq0.false c.in-Some.is)
     ∙ c.loop-step.invariant
 
 pub returns : goal.returns

@@ -4,8 +4,8 @@ use Rattle.plan.specs.Sound.{no_cell}
 use Rattle.plan.proofs.Each.{each_pass, each_fail, each_none}
 use Rattle.plan.proofs.cells.sets_fit.Goals as goal
 
-pub returns-then-cell-gt-SET-LIMIT : goal.returns-then-cell-gt-SET-LIMIT
-returns-then-cell-gt-SET-LIMIT c =
+pub returns-then-cell-gt-SET_LIMIT : goal.returns-then-cell-gt-SET_LIMIT
+returns-then-cell-gt-SET_LIMIT c =
     let s = c.loop-rest.rest.now in
     sym (each_fail (λ x. leb x.set 15) no_cell s (search rules) (lt-leb (get_or s 0 no_cell).set 15 (search rules))) ∙ c.loop-rest.invariant
 

@@ -9,6 +9,6 @@ pub returns : goal.returns
 returns g c =
     let k = g.L.Label.kind in
     let p = c.args.plan.now in
-    let e : c.tables-sound.result ≡ sound_test k p = when_cut k p c.tables-sound.result (search rules) c.tables-sound.ensures in
-    let d = Decides-at c.tables-sound.result (sound_test k p) e (decided k p) in
+    let e : c.tables_sound.result ≡ sound_test k p = when_cut k p c.tables_sound.result (search rules) c.tables_sound.ensures in
+    let d = Decides-at c.tables_sound.result (sound_test k p) e (decided k p) in
     record { is = e; decides = d; whole = λ t. whole k p (d.0 t) }

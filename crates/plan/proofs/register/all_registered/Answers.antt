@@ -4,19 +4,19 @@ use Rattle.plan.proofs.Each.{item_pass, item_fail, each_none}
 use Rattle.plan.proofs.Tallying.{item_mine}
 use Rattle.plan.proofs.register.all_registered.Goals as goal
 
-pub is-registered-requires : goal.is-registered-requires
-is-registered-requires g c =
+pub is_registered-requires : goal.is_registered-requires
+is_registered-requires g c =
     record { filed = c.requires.filed; mine = (item_mine g.L.Label.kind c.atom-item.result c.loop-rest.rest.now (search rules) c.atom-item.is c.loop-rest.invariant.0).0 }
 
-pub returns-then-not-is-registered : goal.returns-then-not-is-registered
-returns-then-not-is-registered g c =
-    sym (item_fail (λ a. registered g.L.Label.kind a.label c.args.rows.now) c.atom-item.result c.loop-rest.rest.now (search rules) c.atom-item.is (sym c.if-not-is-registered.ensures))
+pub returns-then-not-is_registered : goal.returns-then-not-is_registered
+returns-then-not-is_registered g c =
+    sym (item_fail (λ a. registered g.L.Label.kind a.label c.args.rows.now) c.atom-item.result c.loop-rest.rest.now (search rules) c.atom-item.is (sym c.if-not-is_registered.ensures))
     ∙ c.loop-rest.invariant.1
 
 pub loop-rest-preserved : goal.loop-rest-preserved
 loop-rest-preserved g c = (
   (item_mine g.L.Label.kind c.atom-item.result c.loop-rest.rest.now (search rules) c.atom-item.is c.loop-rest.invariant.0).1,
-  sym (item_pass (λ a. registered g.L.Label.kind a.label c.args.rows.now) c.atom-item.result c.loop-rest.rest.now (search rules) c.atom-item.is (sym c.if-not-is-registered.ensures))
+  sym (item_pass (λ a. registered g.L.Label.kind a.label c.args.rows.now) c.atom-item.result c.loop-rest.rest.now (search rules) c.atom-item.is (sym c.if-not-is_registered.ensures))
       ∙ c.loop-rest.invariant.1,
 )
 

@@ -2,8 +2,8 @@ use Rattle.std.proofs.Common.{sym, ◌∙◌, rules}
 use Rattle.plan.proofs.Census.{ascending_on, ascending_none}
 use Rattle.plan.proofs.register.ascends.Goals as goal
 
-pub returns-then-not-is-below : goal.returns-then-not-is-below
-returns-then-not-is-below g c =
+pub returns-then-not-is_below : goal.returns-then-not-is_below
+returns-then-not-is_below g c =
     let h = ascending_on g.L.Label.kind c.row-item.result c.loop-rest.rest.now (search rules) c.row-item.is in search rules
 
 pub loop-rest-preserved : goal.loop-rest-preserved

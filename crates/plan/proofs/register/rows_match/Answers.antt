@@ -2,8 +2,8 @@ use Rattle.std.proofs.Common.{sym, ◌∙◌, rules}
 use Rattle.plan.proofs.Tallying.{matched_on, matched_short, matched_none}
 use Rattle.plan.proofs.register.rows_match.Goals as goal
 
-pub returns-in-default-left : goal.returns-in-default-left
-returns-in-default-left g c =
+pub returns-in_default-left : goal.returns-in_default-left
+returns-in_default-left g c =
     sym (matched_short g.L.Label.kind c.loop-rest.rest.now c.loop-rest.left.now (search rules) (search rules)) ∙ c.loop-rest.invariant
 
 pub returns-then-not-says : goal.returns-then-not-says

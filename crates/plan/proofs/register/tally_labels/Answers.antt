@@ -6,8 +6,8 @@ use Rattle.plan.proofs.Census.{past_shorter}
 use Rattle.plan.proofs.Tallying.{item_mine, counted_one, counted_none, one_more_in, one_more_out, room_left}
 use Rattle.plan.proofs.register.tally_labels.Goals as goal
 
-pub find-row-row-requires : goal.find-row-row-requires
-find-row-row-requires g c =
+pub find_row-row-requires : goal.find_row-row-requires
+find_row-row-requires g c =
     record { filed = c.requires.filed; mine = (item_mine g.L.Label.kind c.atom-item.result c.loop-rest.rest.now (search rules) c.atom-item.is c.loop-rest.invariant.0).0 }
 
 pub loop-rest-preserved-then-row-counts : goal.loop-rest-preserved-then-row-counts
@@ -18,12 +18,12 @@ loop-rest-preserved-then-row-counts g c =
     let x = c.atom-item.result in
     let counts = c.loop-rest.counts in
     let some : 0 < length s = search rules in
-    let row = c.find-row-row.result in
+    let row = c.find_row-row.result in
     let inside : row < length counts = search rules in
     let shorter = past_shorter s some in (
       (item_mine k x s some c.atom-item.is c.loop-rest.invariant.0).1,
       room_left counts row (length (past 1 s)) (length c.args.atoms.now) inside (λ i. let h = c.loop-rest.invariant.1 i in omega arith),
-      sym (counted_one k rows x s counts some c.atom-item.is ∙ ap (counted k rows (map node_of (past 1 s))) (one_more_in (place k x.label rows) row counts c.find-row-row.ensures inside))
+      sym (counted_one k rows x s counts some c.atom-item.is ∙ ap (counted k rows (map node_of (past 1 s))) (one_more_in (place k x.label rows) row counts c.find_row-row.ensures inside))
           ∙ c.loop-rest.invariant.2,
     )
 
@@ -35,11 +35,11 @@ loop-rest-preserved g c =
     let x = c.atom-item.result in
     let counts = c.loop-rest.counts in
     let some : 0 < length s = search rules in
-    let row = c.find-row-row.result in
+    let row = c.find_row-row.result in
     let shorter = past_shorter s some in (
       (item_mine k x s some c.atom-item.is c.loop-rest.invariant.0).1,
       (λ i. let h = c.loop-rest.invariant.1 i in omega arith),
-      sym (counted_one k rows x s counts some c.atom-item.is ∙ ap (counted k rows (map node_of (past 1 s))) (one_more_out (place k x.label rows) row counts c.find-row-row.ensures (search rules)))
+      sym (counted_one k rows x s counts some c.atom-item.is ∙ ap (counted k rows (map node_of (past 1 s))) (one_more_out (place k x.label rows) row counts c.find_row-row.ensures (search rules)))
           ∙ c.loop-rest.invariant.2,
     )
 

@@ -23,10 +23,10 @@ pub returns-then-b-eq45 : goal.returns-then-b-eq45
 unfolding class_of
 returns-then-b-eq45 c = grind (arith, nat_tests)
 
-pub returns-then-is-mark : goal.returns-then-is-mark
+pub returns-then-is_mark : goal.returns-then-is_mark
 unfolding class_of
-returns-then-is-mark c = grind (arith, nat_tests)
+returns-then-is_mark c = grind (arith, nat_tests)
 
-pub returns-else-is-mark : goal.returns-else-is-mark
+pub returns-else-is_mark : goal.returns-else-is_mark
 unfolding class_of
-returns-else-is-mark c = grind (arith, nat_tests)
+returns-else-is_mark c = grind (arith, nat_tests)

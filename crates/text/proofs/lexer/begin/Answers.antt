@@ -27,9 +27,9 @@ returns-in-Ok c =
     let f : front (get_or s 0 0) (drop 1 s) ≡ Ok (c.in-Ok.sort, c.in-Ok.more) = ap (front (get_or s 0 0)) (sym p) ∙ sym c.in-Ok.ensures.is in
     let l : c.in-Ok.more < length s = search rules in
     let t = tokens_first s c.args.place c.in-Ok.more c.in-Ok.sort c.requires.some c.requires.bare f l in
-    let a = c.split-at.ensures.front in
-    let b = c.split-at.ensures.back in
-    let k = c.token-of.ensures in
+    let a = c.split_at.ensures.front in
+    let b = c.split_at.ensures.back in
+    let k = c.token_of.ensures in
     record { is = cc; ahead = search rules }
 
 pub returns-in-Err : goal.returns-in-Err

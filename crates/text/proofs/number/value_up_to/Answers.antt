@@ -8,7 +8,7 @@ pub loop-rest-preserved-then-wide-cap : goal.loop-rest-preserved-then-wide-cap
 loop-rest-preserved-then-wide-cap c =
     let s = c.loop-rest.rest.now in
     let h : 0 < length s = search rules in
-    let d : c.saturating-sub.result ≡ get_or s 0 0 - 48 = search rules in
+    let d : c.saturating_sub.result ≡ get_or s 0 0 - 48 = search rules in
     let v = value_on c.loop-rest.n s h in
     let i = c.loop-rest.invariant.1 in
     (omega arith, rw d (ap (λ x. min x c.args.cap) (sym v) ∙ i))
@@ -17,7 +17,7 @@ pub loop-rest-preserved : goal.loop-rest-preserved
 loop-rest-preserved c =
     let s = c.loop-rest.rest.now in
     let h : 0 < length s = search rules in
-    let d : c.saturating-sub.result ≡ get_or s 0 0 - 48 = search rules in
+    let d : c.saturating_sub.result ≡ get_or s 0 0 - 48 = search rules in
     let v = value_on c.loop-rest.n s h in
     let i = c.loop-rest.invariant.1 in
     let l : c.args.cap ≤ c.loop-rest.n * 10 + (get_or s 0 0 - 48) = rw (← d) (omega arith) in
