@@ -1,4 +1,6 @@
 //! Works scripts: reads commands, one to a line, and answers each.
+#![tactic(auto)]
+
 mod answer;
 mod bytes;
 mod cut;

@@ -1,4 +1,6 @@
 //! Lists of the calls strike, hang and show: what they make of a plan, and what holds after every list.
+#![tactic(auto)]
+
 ghost use Rattle.calls.specs.CallLaws.{AfterLaw};
 ghost use Rattle.calls.specs.Made.{MadeLaw};
 

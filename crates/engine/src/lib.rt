@@ -1,4 +1,6 @@
 //! The calls of the engine on a plan, with what holds of every list of them.
+#![tactic(auto)]
+
 ghost use Rattle.std.specs.Prelude.{◌≡◌, true, length, is_ok, MatchResult};
 ghost use Rattle.plan.specs.Model.{SameTables, model_of, strike_answer, struck, tables_of};
 ghost use Rattle.plan.specs.Sound.{Sound};

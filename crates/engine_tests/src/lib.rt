@@ -1,3 +1,5 @@
 //! Tests of the engine's calls.
+#![tactic(auto)]
+
 #[cfg(test)]
 mod calls;

@@ -1,4 +1,6 @@
 //! Refusals: what went wrong, and at which place.
+#![tactic(auto)]
+
 ghost use Rattle.std.specs.Prelude.{◌≡◌};
 ghost use Rattle.fault.specs.Table.{number_of, layer_of};
 

@@ -1,4 +1,6 @@
 //! What hanging a text means, by the form of the text: items in cells, and not the events that a reader gives.
+#![tactic(auto)]
+
 ghost use Rattle.forming.specs.Events.{FormLaw};
 ghost use Rattle.forming.specs.Joins.{JoinLaw};
 ghost use Rattle.forming.specs.Places.{PlaceLaw};

@@ -1,4 +1,6 @@
 //! Tokens to events: the reader of hangs.
+#![tactic(auto)]
+
 pub mod advance;
 pub mod event;
 pub mod judge;

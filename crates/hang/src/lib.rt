@@ -1,4 +1,6 @@
 //! Hanging a text on a plan.
+#![tactic(auto)]
+
 mod atoms;
 mod cells;
 mod connect;

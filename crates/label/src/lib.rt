@@ -1,4 +1,6 @@
 //! Kinds of labels. A label is what an atom is called, and is written as one token.
+#![tactic(auto)]
+
 pub mod form;
 pub mod kind;
 pub mod numbers;

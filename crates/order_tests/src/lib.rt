@@ -1,4 +1,6 @@
 //! The orders on values worked by hand, and Euclid on a few numbers.
+#![tactic(auto)]
+
 #[cfg(test)]
 mod tests {
     use order::shuffled::Shuffled;

@@ -1,4 +1,6 @@
 //! What hanging a text makes of a plan, and the laws of it.
+#![tactic(auto)]
+
 ghost use Rattle.placing.specs.Counts.{EventsRight};
 ghost use Rattle.placing.specs.Keeps.{HangSound};
 ghost use Rattle.placing.specs.Laws.{HangLaw};

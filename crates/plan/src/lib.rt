@@ -1,4 +1,6 @@
 //! Plans: the tables that hold them, what they stand for, and when they are sound.
+#![tactic(auto)]
+
 mod atoms;
 mod cells;
 pub mod check;

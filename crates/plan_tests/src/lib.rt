@@ -1,3 +1,5 @@
 //! Tests of soundness and strike, with tables written by hand.
+#![tactic(auto)]
+
 #[cfg(test)]
 mod tables;

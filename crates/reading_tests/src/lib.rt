@@ -1,4 +1,6 @@
 //! Tests of reading, with expected values worked by hand from docs/RULES.md.
+#![tactic(auto)]
+
 #[cfg(test)]
 mod cases;
 #[cfg(test)]

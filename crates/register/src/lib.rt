@@ -1,4 +1,6 @@
 //! The upkeep of a plan's register.
+#![tactic(auto)]
+
 pub mod add;
 mod insert;
 mod seek;

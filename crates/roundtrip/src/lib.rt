@@ -1,4 +1,6 @@
 //! What becomes of a shown plan that is hung again.
+#![tactic(auto)]
+
 ghost use Rattle.roundtrip.specs.Roundtrip.{RoundTrip};
 
 use label::kind::Label;

@@ -1,4 +1,6 @@
 //! Plans that are the same but for the numbers of their links, and but for these and the order of rows.
+#![tactic(auto)]
+
 ghost use Rattle.sameness.specs.Ends.{LinksPaired};
 ghost use Rattle.sameness.specs.Keeping.{RenamingHung, RenamingShown, RenamingSound};
 ghost use Rattle.sameness.specs.Renaming.{RenamedEquivalence};

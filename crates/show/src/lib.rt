@@ -1,4 +1,6 @@
 //! Showing a plan: its text, written into a buffer that the caller lends.
+#![tactic(auto)]
+
 mod bytes;
 mod events;
 mod names;

@@ -1,4 +1,6 @@
 //! Bytes to tokens, and names of at most eight characters packed into one number.
+#![tactic(auto)]
+
 pub mod class;
 pub mod lexer;
 pub mod number;

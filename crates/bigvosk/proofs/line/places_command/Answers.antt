@@ -6,6 +6,6 @@ pub returns-in-Some-Some : goal.returns-in-Some-Some
 unfolding places_of
 returns-in-Some-Some c = search rules
 
-pub returns-in-default : goal.returns-in-default
+pub returns-in_default : goal.returns-in_default
 unfolding places_of
-returns-in-default c = search rules
+returns-in_default c = search rules

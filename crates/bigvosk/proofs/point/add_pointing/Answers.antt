@@ -8,12 +8,12 @@ unfolding pointing
 returns c =
     let text = c.args.text.now in
     let w = window_of c.args.place (length text) in
-    let shown = c.part-for-caret.ensures in
-    five_parts (vec_items c.args.out.now) (vec_items c.add.new.out) (vec_items c.add-shown.new.out)
-    (vec_items c.add-2.new.out) (vec_items c.add-spaces.new.out) (vec_items c.add-3.new.out)
+    let shown = c.part_for-caret.ensures in
+    five_parts (vec_items c.args.out.now) (vec_items c.add.new.out) (vec_items c.add_shown.new.out)
+    (vec_items c.add-2.new.out) (vec_items c.add_spaces.new.out) (vec_items c.add-3.new.out)
     (codes "  ") (map shown_byte (part_of w text)) (newline ++ codes "  ") (replicate w.caret 32) (codes "^" ++ newline)
-    c.in-ok-add.ensures
-    (c.in-ok-add-shown.ensures ∙ ap (λ p. vec_items c.add.new.out ++ map shown_byte p) shown.part)
-    c.in-ok-add-2.ensures
-    (c.in-ok-add-spaces.ensures ∙ ap (λ n. vec_items c.add-2.new.out ++ replicate n 32) shown.caret)
-    c.in-ok-add-3.ensures
+    c.in_ok-add.ensures
+    (c.in_ok-add_shown.ensures ∙ ap (λ p. vec_items c.add.new.out ++ map shown_byte p) shown.part)
+    c.in_ok-add-2.ensures
+    (c.in_ok-add_spaces.ensures ∙ ap (λ n. vec_items c.add-2.new.out ++ replicate n 32) shown.caret)
+    c.in_ok-add-3.ensures

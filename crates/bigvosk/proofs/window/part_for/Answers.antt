@@ -5,9 +5,9 @@ use Rattle.bigvosk.proofs.window.part_for.Goals as goal
 
 pub returns : goal.returns
 returns c =
-    let w = c.window-for-from.result in
+    let w = c.window_for-from.result in
     let text = c.args.text.now in
-    let is = c.window-for-from.ensures.is in
+    let is = c.window_for-from.ensures.is in
     record {
       part = ap (λ v. part_of v text) is;
       caret = ap (λ v. v.caret) is;

@@ -12,11 +12,11 @@ loop-rest-preserved c =
     let line = c.cut.result.0.now in
     let after = c.cut.result.1.now in
     let some : 0 < length s = search rules in
-    let told = c.in-ok-current.ensures in (
+    let told = c.in_ok-current.ensures in (
       ap (λ j. kind_after j (lines_of after)) told.kind
           ∙ kind_on k s line after some c.cut.ensures.before c.cut.ensures.past
           ∙ c.loop-rest.invariant.0,
-      ap (λ o. o ++ transcript c.in-ok-current.current (lines_of after)) told.print
+      ap (λ o. o ++ transcript c.in_ok-current.current (lines_of after)) told.print
           ∙ ap (λ j. (out ++ printed k line) ++ transcript j (lines_of after)) told.kind
           ∙ print_on k out s line after some c.cut.ensures.before c.cut.ensures.past
           ∙ c.loop-rest.invariant.1,
@@ -25,5 +25,5 @@ loop-rest-preserved c =
 pub returns : goal.returns
 returns c = search (rules, kind_end, print_end, lines_stand)
 
-pub returns-in-err-current : goal.returns-in-err-current
-returns-in-err-current c = search (rules, lines_stand)
+pub returns-in_err-current : goal.returns-in_err-current
+returns-in_err-current c = search (rules, lines_stand)

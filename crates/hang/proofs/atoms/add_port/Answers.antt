@@ -4,8 +4,8 @@ use Rattle.hang.proofs.atoms.add_port.Goals as goal
 
 pub ported-requires : goal.ported-requires
 ported-requires g c =
-    let free = port_free c.args.atoms.now c.args.count c.index-atoms-count.result c.requires.some c.requires.within c.index-atoms-count.is c.arity-of-port.ensures.places c.requires.room in
-    let e = c.arity-of-port.ensures.is in
+    let free = port_free c.args.atoms.now c.args.count c.index-atoms-count.result c.requires.some c.requires.within c.index-atoms-count.is c.arity_of-port.ensures.places c.requires.room in
+    let e = c.arity_of-port.ensures.is in
     omega arith
 
 pub returns : goal.returns
@@ -14,9 +14,9 @@ returns g c =
     let n = c.args.count in
     let a = c.index-atoms-count.result in
     let b = c.ported.result in
-    let long = c.arity-of-port.ensures.places in
+    let long = c.arity_of-port.ensures.places in
     let free = port_free atoms n a c.requires.some c.requires.within c.index-atoms-count.is long c.requires.room in
-    let port = c.arity-of-port.ensures.is in
+    let port = c.arity_of-port.ensures.is in
     let made = c.ported.ensures in
     let label : b.label ≡ a.label = ap (λ x. x.label) made in
     let cell : b.cell ≡ a.cell = ap (λ x. x.cell) made in

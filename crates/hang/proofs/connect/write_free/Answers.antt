@@ -10,7 +10,7 @@ pub loop-i-preserved : goal.loop-i-preserved
 loop-i-preserved c =
     let f = get_or c.args.from.now c.loop-i.i no_link in
     copied_next (refreed c.args.became.now) c.args.from.now c.loop-i.to c.loop-i.i no_link _ c.loop-i-test.true (omega arith) c.loop-i.invariant
-    (ap (λ x. record { name = f.name; link = x }) c.become-of.ensures)
+    (ap (λ x. record { name = f.name; link = x }) c.become_of.ensures)
 
 pub returns : goal.returns
 returns c =

@@ -9,7 +9,7 @@ use Rattle.hang.specs.Rows.{Filled}
 use Rattle.hang.proofs.Filling.{filled_none}
 use Rattle.hang.proofs.Freeing.{kept_one, left_one}
 use Rattle.hang.proofs.free.list_staying.Goals as goal
-use Rattle.hang.proofs.free.list_staying.Goals.{then-not-stands-once, else-not-stands-once}
+use Rattle.hang.proofs.free.list_staying.Goals.{then-not-stands_once, else-not-stands_once}
 
 pub loop-i-init : goal.loop-i-init
 loop-i-init c = (omega arith, filled_none c.args.out.now)
@@ -20,16 +20,16 @@ loop-i-preserved c =
     let xs = c.args.free.now in
     let i = c.loop-i.i in
     let n = c.loop-i.n in
-    elim c.if-not-stands-once.branch [
-      | then-not-stands-once w ↦ (
+    elim c.if-not-stands_once.branch [
+      | then-not-stands_once w ↦ (
         rw (w.n-is, w.push-n.ensures.count) (omega arith),
         rw (w.n-is, w.out-is, w.push-n.ensures.count, w.push-n.ensures.rows)
-            (kept_one no_link (stays ns) xs i c.loop-i.out n c.loop-i-test.true (ap not (sym c.stands_once.ensures ∙ w.if-not-stands-once.true)) c.loop-i.invariant.1),
+            (kept_one no_link (stays ns) xs i c.loop-i.out n c.loop-i-test.true (ap not (sym c.stands_once.ensures ∙ w.if-not-stands_once.true)) c.loop-i.invariant.1),
       )
-      | else-not-stands-once w ↦ (
+      | else-not-stands_once w ↦ (
         rw w.n-is (omega arith),
         rw (w.n-is, w.out-is)
-            (left_one no_link (stays ns) xs i c.loop-i.out n c.loop-i-test.true (ap not (sym c.stands_once.ensures ∙ w.if-not-stands-once.false)) c.loop-i.invariant.1),
+            (left_one no_link (stays ns) xs i c.loop-i.out n c.loop-i-test.true (ap not (sym c.stands_once.ensures ∙ w.if-not-stands_once.false)) c.loop-i.invariant.1),
       )
     ]
 

@@ -6,12 +6,12 @@ use Rattle.placing.proofs.HangLaws.{hang_laws}
 use Rattle.hang.proofs.Hanging.{accepted, hangable, sound_after}
 use Rattle.hang.proofs.hang.hang.Goals as goal
 
-pub hang-sound-requires : goal.hang-sound-requires
-hang-sound-requires g c =
+pub hang_sound-requires : goal.hang_sound-requires
+hang_sound-requires g c =
     let k = g.L.Label.kind in
     let text = c.args.text.now in
-    let sc : SheetCounts k text c.in-ok-sheet.sheet = sheet_ok k text c.in-ok-sheet.sheet (sym c.in-ok-sheet.ensures.is) in
-    record { hangable = hangable k c.args.plan.now text c.in-ok-sheet.sheet (c.is-sound.ensures.decides.0 c.if-not-is-sound.false) sc; sheet = sc }
+    let sc : SheetCounts k text c.in_ok-sheet.sheet = sheet_ok k text c.in_ok-sheet.sheet (sym c.in_ok-sheet.ensures.is) in
+    record { hangable = hangable k c.args.plan.now text c.in_ok-sheet.sheet (c.is_sound.ensures.decides.0 c.if-not-is_sound.false) sc; sheet = sc }
 
 pub returns : goal.returns
 returns g c =
@@ -19,12 +19,12 @@ returns g c =
     let law = g.met.L.Label.lawful in
     let p = c.args.plan.now in
     let text = c.args.text.now in
-    let sc : SheetCounts k text c.in-ok-sheet.sheet = sheet_ok k text c.in-ok-sheet.sheet (sym c.in-ok-sheet.ensures.is) in
-    let h = hangable k p text c.in-ok-sheet.sheet (c.is-sound.ensures.decides.0 c.if-not-is-sound.false) sc in
-    let hung = c.if-not-hang-sound.ensures.hung in
-    let takes = sym c.if-not-hang-sound.ensures.is in
+    let sc : SheetCounts k text c.in_ok-sheet.sheet = sheet_ok k text c.in_ok-sheet.sheet (sym c.in_ok-sheet.ensures.is) in
+    let h = hangable k p text c.in_ok-sheet.sheet (c.is_sound.ensures.decides.0 c.if-not-is_sound.false) sc in
+    let hung = c.if-not-hang_sound.ensures.hung in
+    let takes = sym c.if-not-hang_sound.ensures.is in
     record {
-      answer = accepted k p text sc.clean (sym c.is-sound.ensures.is ∙ c.if-not-is-sound.false) takes;
+      answer = accepted k p text sc.clean (sym c.is_sound.ensures.is ∙ c.if-not-is_sound.false) takes;
       after = hung.0;
       tables = hung.1.tables;
       sound = λ _. sound_after k law p text h c.hang_sound.new.plan takes hung.0 hung.1;

@@ -8,12 +8,12 @@ use Rattle.hang.proofs.Heading.{ends_there}
 use Rattle.hang.proofs.Labelling.{labels_on, lacking_end, lacking_on, mine_on}
 use Rattle.hang.proofs.labels.list_labels.Goals as goal
 
-pub note-label-n-requires : goal.note-label-n-requires
-note-label-n-requires g c =
+pub note_label-n-requires : goal.note_label-n-requires
+note_label-n-requires g c =
     let k = g.L.Label.kind in
-    let e = c.in_Some.event in
-    let rest = left k c.next-event.new.reader in
-    let gives : event e rest ≡ left k c.loop-event.reader = c.in_Some.ensures.0 in
+    let e = c.in-Some.event in
+    let rest = left k c.next_event.new.reader in
+    let gives : event e rest ≡ left k c.loop-event.reader = c.in-Some.ensures.0 in
     let mine = mine_on k e rest (ap (all_mine k) gives ∙ c.loop-event.invariant.3) in
     let more : labels_at e + labels_in rest ≡ labels_in (left k c.loop-event.reader) = sym (labels_on e rest) ∙ ap labels_in gives in
     let room = c.loop-event.invariant.4 in
@@ -23,18 +23,18 @@ note-label-n-requires g c =
 pub loop-event-preserved : goal.loop-event-preserved
 loop-event-preserved g c =
     let k = g.L.Label.kind in
-    let e = c.in_Some.event in
-    let rest = left k c.next-event.new.reader in
+    let e = c.in-Some.event in
+    let rest = left k c.next_event.new.reader in
     let register = c.args.register.now in
     let ls = take c.loop-event.n c.loop-event.tokens in
-    let gives : event e rest ≡ left k c.loop-event.reader = c.in_Some.ensures.0 in
+    let gives : event e rest ≡ left k c.loop-event.reader = c.in-Some.ensures.0 in
     let mine = mine_on k e rest (ap (all_mine k) gives ∙ c.loop-event.invariant.3) in
     let more : labels_at e + labels_in rest ≡ labels_in (left k c.loop-event.reader) = sym (labels_on e rest) ∙ ap labels_in gives in
     let room = c.loop-event.invariant.4 in
-    let few = c.note-label-n.ensures.few in
-    let long = c.note-label-n.auto.tokens in (
-      ap (λ t. lacking k register t rest) c.note-label-n.ensures.labels ∙ sym (lacking_on k register ls e rest) ∙ ap (lacking k register ls) gives ∙ c.loop-event.invariant.0,
-      c.in_Some.ensures.2 ∙ c.loop-event.invariant.1,
+    let few = c.note_label-n.ensures.few in
+    let long = c.note_label-n.auto.tokens in (
+      ap (λ t. lacking k register t rest) c.note_label-n.ensures.labels ∙ sym (lacking_on k register ls e rest) ∙ ap (lacking k register ls) gives ∙ c.loop-event.invariant.0,
+      c.in-Some.ensures.2 ∙ c.loop-event.invariant.1,
       ap fault_of gives ∙ c.loop-event.invariant.2,
       mine.1,
       omega arith,

@@ -12,16 +12,16 @@ loop-rest-preserved c =
     let some : 0 < length s = search rules in
     let p : length (take (length s - 1) (drop 1 s)) ≡ length s - 1 = ap length (past_is 1 s) ∙ length-drop 1 s in
     let room : c.loop-rest.row < length c.loop-rest.links = omega arith in
-    elim c.match-closed-link.branch [
+    elim c.match-closed_link.branch [
       | in-Some w ↦ (
         omega arith,
         rw w.next-is (omega arith),
-        rw (w.next-is, w.links-is) (one_closed free (drop c.loop-rest.next unused) s c.loop-rest.links c.loop-rest.row w.in-Some.link _ some room (sym c.closed-link.ensures ∙ w.in-Some.is) c.loop-rest.invariant.2),
+        rw (w.next-is, w.links-is) (one_closed free (drop c.loop-rest.next unused) s c.loop-rest.links c.loop-rest.row w.in-Some.link _ some room (sym c.closed_link.ensures ∙ w.in-Some.is) c.loop-rest.invariant.2),
       )
       | in-None w ↦ (
         omega arith,
         rw w.next-is (omega arith),
-        rw (w.next-is, w.links-is) (one_new free unused c.loop-rest.next s c.loop-rest.links c.loop-rest.row w.number-at.result _ some room (sym c.closed-link.ensures ∙ w.in-None.is) w.number-at.ensures c.loop-rest.invariant.2),
+        rw (w.next-is, w.links-is) (one_new free unused c.loop-rest.next s c.loop-rest.links c.loop-rest.row w.number_at.result _ some room (sym c.closed_link.ensures ∙ w.in-None.is) w.number_at.ensures c.loop-rest.invariant.2),
       )
     ]
 

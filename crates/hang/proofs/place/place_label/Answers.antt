@@ -3,8 +3,8 @@ use Rattle.plan.specs.Model.{model_of}
 use Rattle.hang.proofs.Registering.{few_nodes, register_filed, register_fits}
 use Rattle.hang.proofs.place.place_label.Goals as goal
 
-pub add-label-plan-requires : goal.add-label-plan-requires
-add-label-plan-requires g c =
+pub add_label-plan-requires : goal.add_label-plan-requires
+add_label-plan-requires g c =
     let k = g.L.Label.kind in
     let p = c.args.plan.now in
     let nodes = (model_of p).atoms in

@@ -10,13 +10,13 @@ returns g c =
     let s = port_links (map node_of c.args.atoms.now) in
     let t = map (λ f. f.link) c.args.free.now in
     let p : ℕ → Bool = λ x. eqb (count x (s ++ t)) 0 in
-    let filled : Filled c.list-zeros.new.out c.list-zeros.result (filter p (rows 0 8256)) =
-    subst (λ xs. Filled c.list-zeros.new.out c.list-zeros.result xs)
-    (zeros_right s t c.tally-ports.new.counts c.tally-free.new.counts c.tally-ports.ensures c.tally-free.ensures)
-    c.list-zeros.ensures in
-    let n : c.list-zeros.result ≡ length (filter p (rows 0 8256)) = filled.count in
+    let filled : Filled c.list_zeros.new.out c.list_zeros.result (filter p (rows 0 8256)) =
+    subst (λ xs. Filled c.list_zeros.new.out c.list_zeros.result xs)
+    (zeros_right s t c.tally_ports.new.counts c.tally_free.new.counts c.tally_ports.ensures c.tally_free.ensures)
+    c.list_zeros.ensures in
+    let n : c.list_zeros.result ≡ length (filter p (rows 0 8256)) = filled.count in
     let few = kept_few p (rows 0 8256) in
     let long = length_rows 0 8256 in
-    let kept = c.list-zeros.auto.out in
+    let kept = c.list_zeros.auto.out in
     let pre = c.requires in
-    record { numbers = filled_whole c.list-zeros.new.out c.list-zeros.result (filter p (rows 0 8256)) filled (omega arith); few = omega arith }
+    record { numbers = filled_whole c.list_zeros.new.out c.list_zeros.result (filter p (rows 0 8256)) filled (omega arith); few = omega arith }

@@ -3,8 +3,8 @@ use Rattle.plan.proofs.Census.{past_shorter}
 use Rattle.register.proofs.Seeking.{below_none, below_stop, below_on}
 use Rattle.register.proofs.seek.rows_below.Goals as goal
 
-pub returns-then-not-is-lower : goal.returns-then-not-is-lower
-returns-then-not-is-lower g c =
+pub returns-then-not-is_lower : goal.returns-then-not-is_lower
+returns-then-not-is_lower g c =
     let k = g.L.Label.kind in
     let some : 0 < length c.loop-rest.rest.now = search rules in
     let stop = below_stop k c.args.label c.row-item.result c.loop-rest.rest.now some c.row-item.is (search rules) in
