@@ -8,17 +8,17 @@ use Rattle.desk.proofs.lent.hang_tables.Goals as goal
 
 pub returns : goal.returns
 returns g c =
-    let q = c.hang_answer.new.plan in
-    let ens = c.hang_answer.ensures in
-    let n = c.counts-of.result in
+    let q = c.hang-answer.new.plan in
+    let ens = c.hang-answer.ensures in
+    let n = c.counts_of.result in
     let m : Rows = record { atoms = q.atom_count; cells = q.cell_count; free = q.free_count; labels = q.label_count } in
-    let t = tabled c.atoms·1.given.0 c.cells·1.given.0 c.free·1.given.0 c.register·1.given.0 n in
+    let t = tabled c.atoms-1.given.0 c.cells-1.given.0 c.free-1.given.0 c.register-1.given.0 n in
     let e : t ≡ tables_of q =
-    same_tables c.atoms·1.given.0 q.atoms.now c.cells·1.given.0 q.cells.now c.free·1.given.0 q.free.now c.register·1.given.0 q.register.now n m
-    (c.atoms·1.given.1.1 (sym ens.tables.atoms)) (c.cells·1.given.1.1 (sym ens.tables.cells))
-    (c.free·1.given.1.1 (sym ens.tables.free)) (c.register·1.given.1.1 (sym ens.tables.register)) c.counts-of.ensures in
+    same_tables c.atoms-1.given.0 q.atoms.now c.cells-1.given.0 q.cells.now c.free-1.given.0 q.free.now c.register-1.given.0 q.register.now n m
+    (c.atoms-1.given.1.1 (sym ens.tables.atoms)) (c.cells-1.given.1.1 (sym ens.tables.cells))
+    (c.free-1.given.1.1 (sym ens.tables.free)) (c.register-1.given.1.1 (sym ens.tables.register)) c.counts_of.ensures in
     let k = g.L.Label.kind in
     let text = c.args.text.now in
-    let told : Told k _ q c.hang_answer.result _ = record { after = ens.after; same = ens.tables; sound = ens.sound } in
+    let told : Told k _ q c.hang-answer.result _ = record { after = ens.after; same = ens.tables; sound = ens.sound } in
     let same = hang_by told text ens.answer c.requires.ready in
     record { answer = same; after = call_held told t e _ same; ready = call_ready told t e (λ _. c.requires.ready) }

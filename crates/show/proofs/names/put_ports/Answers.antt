@@ -9,7 +9,7 @@ pub loop-rest-preserved : goal.loop-rest-preserved
 loop-rest-preserved g c =
     let f = port_written g.L.Label.kind c.args.free.now in
     let s = c.loop-rest.rest.now in
-    ap (λ (p : Page). fold f p (past 1 s)) c.put-port.ensures ∙ sym (folded_first f 0 s (page_of c.loop-rest.scribe) (search rules)) ∙ c.loop-rest.invariant
+    ap (λ (p : Page). fold f p (past 1 s)) c.put_port.ensures ∙ sym (folded_first f 0 s (page_of c.loop-rest.scribe) (search rules)) ∙ c.loop-rest.invariant
 
 pub returns : goal.returns
 returns g c =

@@ -14,9 +14,9 @@ loop-rest-preserved-in-Some g c =
     let s = c.loop-rest.rest.now in
     let p = page_of c.loop-rest.scribe in
     let n = (get_or s 0 no_link).name in
-    let o : open_name (get_or s 0 no_link).link (past 1 s) ≡ Some c.in_Some.later = sym c.open_name.ensures ∙ c.in_Some.is in
+    let o : open_name (get_or s 0 no_link).link (past 1 s) ≡ Some c.in-Some.later = sym c.open_name.ensures ∙ c.in-Some.is in
     ap (λ (q : Page). fold (event_written k) q (ties (past 1 s)))
-    (c.put-event-in-Some.ensures ∙ ap (λ (q : Page). event_written k q (events.Second c.in_Some.later)) c.put-event.ensures)
+    (c.put_event-in-Some.ensures ∙ ap (λ (q : Page). event_written k q (events.Second c.in-Some.later)) c.put_event.ensures)
     ∙ ap (λ (later : Option Name). fold (event_written k) (fold (event_written k) p (tie n later)) (ties (past 1 s))) (sym o)
     ∙ sym (ties_here k s p (search rules))
     ∙ c.loop-rest.invariant
@@ -27,7 +27,7 @@ loop-rest-preserved g c =
     let s = c.loop-rest.rest.now in
     let p = page_of c.loop-rest.scribe in
     let n = (get_or s 0 no_link).name in
-    let o : open_name (get_or s 0 no_link).link (past 1 s) ≡ None = sym c.open_name.ensures ∙ c.in-default-open-name.is in
+    let o : open_name (get_or s 0 no_link).link (past 1 s) ≡ None = sym c.open_name.ensures ∙ c.in_default-open_name.is in
     ap (λ (later : Option Name). fold (event_written k) (fold (event_written k) p (tie n later)) (ties (past 1 s))) (sym o)
     ∙ sym (ties_here k s p (search rules))
     ∙ c.loop-rest.invariant

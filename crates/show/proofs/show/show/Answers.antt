@@ -13,17 +13,17 @@ returns-in-Some g c =
     let p = c.args.plan.now in
     let old = c.args.out.now in
     let text = shown k (model_of p) in
-    let sound : sound_test k p ≡ true = sym c.is-sound.ensures.is ∙ c.if-not-is-sound.false in
-    let fits = measured_text text c.in_Some.n (length old) (sym c.in_Some.is ∙ c.write-plan.ensures.answer) in
+    let sound : sound_test k p ≡ true = sym c.is_sound.ensures.is ∙ c.if-not-is_sound.false in
+    let fits = measured_text text c.in-Some.n (length old) (sym c.in-Some.is ∙ c.write_plan.ensures.answer) in
     record {
-      answer = answered k p c.in_Some.n (length old) sound fits.0 fits.1;
-      bytes = c.write-plan-in-Some.ensures.bytes ∙ pasted_whole text old c.in_Some.n fits.0 fits.1;
+      answer = answered k p c.in-Some.n (length old) sound fits.0 fits.1;
+      bytes = c.write_plan-in-Some.ensures.bytes ∙ pasted_whole text old c.in-Some.n fits.0 fits.1;
       short = shown_readable k g.met.L.Label.lawful;
       again = round_trip k g.met.L.Label.lawful;
     }
 
-pub returns-then-not-is-sound : goal.returns-then-not-is-sound
-returns-then-not-is-sound g c =
+pub returns-then-not-is_sound : goal.returns-then-not-is_sound
+returns-then-not-is_sound g c =
     let k = g.L.Label.kind in
     record { answer = search rules; bytes = search rules; short = shown_readable k g.met.L.Label.lawful; again = round_trip k g.met.L.Label.lawful }
 

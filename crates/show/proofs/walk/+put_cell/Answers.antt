@@ -9,7 +9,7 @@ use Rattle.show.specs.Page.{Page, page_of, event_written}
 use Rattle.show.specs.Steps.{step_written}
 use Rattle.show.proofs.Walks.{cell_walk, walk_none, walk_more, cell_met, row_here, row_other, row_end, cells_whole}
 use Rattle.show.proofs.walk.+put_cell.Goals as goal
-use Rattle.show.proofs.walk.+put_cell.Goals.{then-lies-in, else-lies-in}
+use Rattle.show.proofs.walk.+put_cell.Goals.{then-lies_in, else-lies_in}
 
 pub returns-then-levels-eq0 : goal.returns-then-levels-eq0
 returns-then-levels-eq0 g t c =
@@ -31,20 +31,20 @@ loop-row-preserved g t c =
     let has : (ℕ → Bool) = λ r. has_parent c.args.cell (get_or m.cells r no_cell).parent in
     let left : List ℕ = filter has (rows (i + 1) (count - (i + 1))) in
     let cell : get_or m.cells i no_cell ≡ get_or cells i no_cell = get_or-take count cells i no_cell c.loop-row-test.true in
-    let here : has i ≡ c.lies-in.result = ap (λ (x : Cell). has_parent c.args.cell x.parent) cell ∙ sym c.lies-in.ensures in
-    elim c.if-lies-in.branch [
-      | then-lies-in w ↦
-          let q : page_of c.if-lies-in.scribe ≡ fold f p (cell_walk n m i) =
+    let here : has i ≡ c.lies_in.result = ap (λ (x : Cell). has_parent c.args.cell x.parent) cell ∙ sym c.lies_in.ensures in
+    elim c.if-lies_in.branch [
+      | then-lies_in w ↦
+          let q : page_of c.if-lies_in.scribe ≡ fold f p (cell_walk n m i) =
           ap page_of w.scribe-is
-          ∙ w.put-event.ensures
-          ∙ ap (λ (x : Page). event_written k x events.Leave) (w.put-cell.ensures ∙ ap (λ (x : Page). fold f x (walk n m i)) (w.put-enter.ensures ∙ ap (λ (x : Cell). f p (enter x.set)) (sym cell)))
+          ∙ w.put_event.ensures
+          ∙ ap (λ (x : Page). event_written k x events.Leave) (w.put_cell.ensures ∙ ap (λ (x : Page). fold f x (walk n m i)) (w.put_enter.ensures ∙ ap (λ (x : Cell). f p (enter x.set)) (sym cell)))
           ∙ sym (cell_met f n m i p) in
           ap (λ (x : Page). fold f x (flat (cell_walk n m) left)) q
-          ∙ sym (row_here f (cell_walk n m) has i count p c.loop-row-test.true (here ∙ w.if-lies-in.true))
+          ∙ sym (row_here f (cell_walk n m) has i count p c.loop-row-test.true (here ∙ w.if-lies_in.true))
           ∙ c.loop-row.invariant
-      | else-lies-in w ↦
+      | else-lies_in w ↦
           ap (λ (x : Page). fold f x (flat (cell_walk n m) left)) (ap page_of w.scribe-is)
-          ∙ sym (row_other f (cell_walk n m) has i count p c.loop-row-test.true (here ∙ w.if-lies-in.false))
+          ∙ sym (row_other f (cell_walk n m) has i count p c.loop-row-test.true (here ∙ w.if-lies_in.false))
           ∙ c.loop-row.invariant
     ]
 
@@ -61,8 +61,8 @@ returns g t c =
     let free : plan.free_count - 0 ≡ plan.free_count = omega arith in
     let atoms : plan.atom_count - 0 ≡ plan.atom_count = omega arith in
     let levels : c.args.levels ≡ suc n = omega arith in
-    let first : page_of c.put-atoms.new.scribe ≡ fold f p (map atom (atoms_in c.args.cell m.atoms)) =
-    c.put-atoms.ensures
+    let first : page_of c.put_atoms.new.scribe ≡ fold f p (map atom (atoms_in c.args.cell m.atoms)) =
+    c.put_atoms.ensures
     ∙ ap₂ (λ x y. fold (step_written k (take x plan.free.now)) p (map atom (atoms_in c.args.cell (map node_of (take y plan.atoms.now))))) free atoms in
     sym (row_end f (cell_walk n m) has c.loop-row.row count (page_of c.loop-row.scribe) c.loop-row-test.false)
     ∙ c.loop-row.invariant

@@ -14,5 +14,5 @@ invariant-loop-row g l =
     ≡ fold (step_written g.L.Label.kind (model_of l.plan).free) (page_of l.initial.scribe)
     (flat (cell_walk (l.levels - 1) (model_of l.plan)) (filter (λ r. has_parent l.cell (get_or (model_of l.plan).cells r no_cell).parent) (rows 0 l.plan.cell_count)))
 
-abbrev pub decreases-put-cell : goal.decreases-put-cell
-decreases-put-cell g l = l.levels
+abbrev pub decreases-put_cell : goal.decreases-put_cell
+decreases-put_cell g l = l.levels

@@ -11,7 +11,7 @@ pub loop-rest-preserved-then-atom-cell : goal.loop-rest-preserved-then-atom-cell
 loop-rest-preserved-then-atom-cell g c =
     let f = step_written g.L.Label.kind c.args.free.now in
     let s = c.loop-rest.rest.now in
-    ap (λ (p : Page). fold f p (map atom (atoms_in c.args.cell (map node_of (past 1 s))))) c.put-atom.ensures
+    ap (λ (p : Page). fold f p (map atom (atoms_in c.args.cell (map node_of (past 1 s))))) c.put_atom.ensures
     ∙ sym (atom_here f c.args.cell c.atom-item.result s (page_of c.loop-rest.scribe) (search rules) c.atom-item.is c.if-atom-cell.true)
     ∙ c.loop-rest.invariant
 

@@ -8,17 +8,17 @@ use Rattle.desk.proofs.desk.Desk.strike.Goals as goal
 pub returns : goal.returns
 returns g c =
     let d = c.args.self.now in
-    let x = c.strike-tables.new in
-    let keeps = c.strike-tables.auto in
-    let ens = c.strike-tables.ensures in
-    let a = c.as-mut-slice.result.now in
-    let b = c.as-mut-slice-2.result.now in
-    let f = c.as-mut-slice-3.result.now in
-    let r = c.as-mut-slice-4.result.now in
-    let ea = c.as-mut-slice.ensures.value in
-    let eb = c.as-mut-slice-2.ensures.value in
-    let ef = c.as-mut-slice-3.ensures.value in
-    let er = c.as-mut-slice-4.ensures.value in
+    let x = c.strike_tables.new in
+    let keeps = c.strike_tables.auto in
+    let ens = c.strike_tables.ensures in
+    let a = c.as_mut_slice.result.now in
+    let b = c.as_mut_slice-2.result.now in
+    let f = c.as_mut_slice-3.result.now in
+    let r = c.as_mut_slice-4.result.now in
+    let ea = c.as_mut_slice.ensures.value in
+    let eb = c.as_mut_slice-2.ensures.value in
+    let ef = c.as_mut_slice-3.ensures.value in
+    let er = c.as_mut_slice-4.ensures.value in
     let d' : Desk g.row.L.Denot =
     record { atoms = with_items d.atoms x.atoms; cells = with_items d.cells x.cells; free = with_items d.free x.free; register = with_items d.register x.register; counts = x.counts } in
     let t' = tabled x.atoms x.cells x.free x.register x.counts in
