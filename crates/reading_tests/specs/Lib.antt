@@ -1,2 +1,3 @@
 pub mod Mute
-pub mod MuteLaws
+pub mod Zeros
+pub mod ZerosLaws

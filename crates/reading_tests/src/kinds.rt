@@ -1,6 +1,6 @@
-//! Label kinds, and one that takes no token.
+//! Label kinds, and one that takes one token alone.
 use crate::cases::{holds, refused};
-use crate::mute::Mute;
+use crate::zeros::Zeros;
 use label::form::Form;
 use label::kind::Label;
 use label::word::WordLabel;
@@ -11,9 +11,9 @@ use std::test::Fail;
 
 #[test]
 fn no_token(rt: HostRuntime) -> Result<(), Fail> {
-    holds::<Mute>(&rt, b"{X=Y},Y=X", 0, 1, 2, 0)?;
-    refused::<Mute>(&rt, b"a", 4, 0)?;
-    refused::<Mute>(&rt, b"{7}", 4, 1)
+    holds::<Zeros>(&rt, b"{X=Y},Y=X", 0, 1, 2, 0)?;
+    refused::<Zeros>(&rt, b"a", 4, 0)?;
+    refused::<Zeros>(&rt, b"{7}", 4, 1)
 }
 
 /// A label is written as some bytes of some class.

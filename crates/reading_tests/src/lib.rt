@@ -10,3 +10,4 @@ mod long;
 pub mod mute;
 #[cfg(test)]
 mod tokens;
+pub mod zeros;

@@ -1,0 +1,59 @@
+//! A kind of label that takes one token alone.
+ghost use Rattle.reading_tests.specs.Zeros.{zeros_kind, zeros_raw};
+ghost use Rattle.reading_tests.specs.ZerosLaws.{zeros_lawful, zeros_sound};
+
+use label::form::Form;
+use label::kind::Label;
+use std::cmp::Ordering;
+
+/// A value that is a label if it holds 0.
+#[derive(Clone, Copy)]
+pub struct Zeros {
+    pub held: u8,
+}
+
+/// The one label.
+#[derive(Clone, Copy)]
+pub struct Zero;
+
+impl Label for Zeros {
+    type Sure = Zero;
+
+    ghost kind = { zeros_kind };
+
+    ghost raw = { zeros_raw };
+
+    ghost lawful = { zeros_lawful };
+
+    ghost sound = { zeros_sound };
+
+    fn read(form: Form, bytes: &[u8]) -> Option<Zeros> {
+        match form {
+            Form::Word => None,
+            Form::Number => match bytes {
+                [b'0'] => Some(Zeros { held: 0 }),
+                _ => None,
+            },
+        }
+    }
+
+    fn compare(self, other: Zeros) -> Ordering {
+        Ordering::Equal
+    }
+
+    fn write(self, out: &mut [u8; 11]) -> Option<(Form, usize)> {
+        if self.held != 0 {
+            return None;
+        }
+        out[0] = b'0';
+        Some((Form::Number, 1))
+    }
+
+    fn admit(self) -> Option<Zero> {
+        if self.held == 0 { Some(Zero) } else { None }
+    }
+
+    fn plain(s: Zero) -> Zeros {
+        Zeros { held: 0 }
+    }
+}
