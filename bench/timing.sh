@@ -1,6 +1,6 @@
 # Read by the other scripts here, at the repository's top: the program, a folder to write into, and times of runs.
-program=target/bin/bigvosk
-[ -x "$program" ] || rt check bigvosk
+program=crates/bigvosk/out/bigvosk
+[ -x "$program" ] || (cd crates/bigvosk && rt run < /dev/null > /dev/null)
 scratch=$(mktemp -d)
 trap 'rm -rf "$scratch"' EXIT
 
