@@ -1,7 +1,12 @@
-//! A kind of label that takes no token. It keeps the laws of label kinds, but has no `impl`: the gate refuses a function that no call can
-//! reach, and its `plain` would be one, since there is no label to call it with.
-ghost use Rattle.label.specs.Kind.{Lawful, Sound};
+//! A kind of label that takes no token. It keeps the laws of label kinds, but is no `impl Label`: the gate refuses a function that no call
+//! can reach, and `plain` would be one, since there is no label to call it with. The other functions of a kind stand here by themselves.
+ghost use Rattle.std.specs.Prelude.{◌≡◌};
+ghost use Rattle.std.specs.Option.{option_map};
+ghost use Rattle.label.specs.Kind.{Lawful, Sound, admitted, compared, measured, written};
 ghost use Rattle.reading_tests.specs.Mute.{mute_kind, mute_raw};
+
+use label::form::Form;
+use std::cmp::Ordering;
 
 /// A value that is no label.
 #[derive(Clone, Copy)]
@@ -12,6 +17,37 @@ pub struct Mute {
 /// No value at all.
 #[derive(Clone, Copy)]
 pub enum Never {}
+
+impl Mute {
+    /// The label that a token means: none.
+    pub fn read(form: Form, bytes: &[u8]) -> Option<Mute>
+        ensures { result ≡ mute_kind.read form bytes.now }
+    {
+        None
+    }
+
+    /// No value is lower than another.
+    pub fn compare(self, other: Mute) -> Ordering
+        ensures { result ≡ compared mute_kind.lower self other }
+    {
+        Ordering::Equal
+    }
+
+    /// No value has a token, so `out` stays.
+    pub fn write(self, out: &mut [u8; 11]) -> Option<(Form, usize)>
+        ensures token { result ≡ measured (mute_kind.token self) }
+        ensures bytes { out.new ≡ written (mute_kind.token self) out.old }
+    {
+        None
+    }
+
+    /// No value is a label.
+    pub fn admit(self) -> Option<Never>
+        ensures { option_map mute_raw result ≡ admitted mute_kind.mine self }
+    {
+        None
+    }
+}
 
 /// A kind that takes no token keeps the laws.
 pub fn mute_stands() -> u8
