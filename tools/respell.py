@@ -48,11 +48,11 @@ def imported(text):
 
 
 def spelled(name):
-    if "-" not in name or not HYPHEN.search(name):
-        return name
-    if name[0].isupper():
+    if re.match(r"[A-Z].*[-_][a-z]", name):
         parts = re.split(r"[-_]", name)
         return parts[0] + "".join(p[:1].upper() + p[1:] for p in parts[1:])
+    if not HYPHEN.search(name):
+        return name
     return re.sub(r"(?<=[^\W_])('?)-(?=[^\W_])", r"\1_", name)
 
 

@@ -28,7 +28,7 @@ use Rattle.sameness.proofs.Showing.{renaming_shown}
 use Rattle.sameness.proofs.Texts.{renaming_hung}
 use Rattle.calls.specs.Calls.{Call, strike, hang, show, Limits, accepts, after, hang_on, limits_of, made, next, strike_on, within}
 use Rattle.calls.specs.CallLaws.{FitLimits, PlanLaws}
-use Rattle.calls.specs.Made.{Goes_on, HangFollows, MadeBy, MadeLaw, ShowFollows, StrikeFollows, begins, buffer_after}
+use Rattle.calls.specs.Made.{GoesOn, HangFollows, MadeBy, MadeLaw, ShowFollows, StrikeFollows, begins, buffer_after}
 use Rattle.calls.proofs.After.{after_law, after_more, by_answer, by_strike}
 
 -- ** the tables and what they stand for
@@ -165,7 +165,7 @@ module _ {L : Type 0} (k : Kind L) where
     made_law p calls h =
         laws_renamed k (limits_of p) (made k (limits_of p) calls) (model_of p) _ h.same (model_sound k p h.sound) (after_law k law (limits_of p) calls (fit_limits k p h.sound)).laws
 
-    goes_on : (p : Plan L) (calls : List Call) → MadeBy k p calls → Goes_on k p calls
+    goes_on : (p : Plan L) (calls : List Call) → MadeBy k p calls → GoesOn k p calls
     goes_on p calls h = record { made_by = h; laws = made_law p calls h }
 
     -- ** strike

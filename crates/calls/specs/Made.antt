@@ -34,20 +34,20 @@ module _ {L : Type 0} (k : Kind L) where
   MadeLaw = (p : Plan L) (calls : List Call) → MadeBy p calls → PlanLaws k (limits_of p) (model_of p) (texts k (limits_of p) calls)
 
   -- calls made the plan, and so the laws hold of it
-  pub record Goes_on (p : Plan L) (calls : List Call) : Type 0 where
+  pub record GoesOn (p : Plan L) (calls : List Call) : Type 0 where
     pub made_by : MadeBy p calls
     pub laws : PlanLaws k (limits_of p) (model_of p) (texts k (limits_of p) calls)
 
   -- a strike of the plan p left q: it begins a list, and goes on with every list that made p
   pub record StrikeFollows (p q : Plan L) (r : Result (Unit {0}) Fault) : Type 0 where
-    pub anew : is_ok r ≡ true → Goes_on q (strike ∷ [])
+    pub anew : is_ok r ≡ true → GoesOn q (strike ∷ [])
     pub answer : r ≡ strike_on (limits_of p)
-    pub more : (calls : List Call) → MadeBy p calls → Goes_on q (calls ++ (strike ∷ []))
+    pub more : (calls : List Call) → MadeBy p calls → GoesOn q (calls ++ (strike ∷ []))
 
   -- a hang after calls answers as the definitions say, and leaves what they make with it
   pub record HungBy (p q : Plan L) (text : List ℕ) (r : Result (Unit {0}) Fault) (calls : List Call) : Type 0 where
     pub answer : r ≡ hang_on k (limits_of p) (made k (limits_of p) calls) text
-    pub more : Goes_on q (calls ++ (hang text ∷ []))
+    pub more : GoesOn q (calls ++ (hang text ∷ []))
 
   abbrev pub HangFollows : Plan L → Plan L → List ℕ → Result (Unit {0}) Fault → Type 0
   HangFollows p q text r = (calls : List Call) → MadeBy p calls → HungBy p q text r calls
@@ -56,7 +56,7 @@ module _ {L : Type 0} (k : Kind L) where
   pub record ShownBy (p : Plan L) (old new : List ℕ) (r : Result ℕ Fault) (calls : List Call) : Type 0 where
     pub answer : r ≡ show_on k (made k (limits_of p) calls) (length old)
     pub bytes : new ≡ buffer_after (shown k (made k (limits_of p) calls)) old r
-    pub more : Goes_on p (calls ++ (show (length old) ∷ []))
+    pub more : GoesOn p (calls ++ (show (length old) ∷ []))
 
   abbrev pub ShowFollows : Plan L → List ℕ → List ℕ → Result ℕ Fault → Type 0
   ShowFollows p old new r = (calls : List Call) → MadeBy p calls → ShownBy p old new r calls

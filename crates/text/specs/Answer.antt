@@ -29,10 +29,10 @@ answer n (Err f) = fault f
 abbrev pub Ahead : ℕ → List ℕ → Found → Type 0
 Ahead at bs x = (x.next + length x.rest.now ≡ at + length bs) × (length x.rest.now < length bs)
 
-abbrev pub Goes_on : ℕ → List ℕ → Result (Option Found) Fault → Type 0
-Goes_on at bs (Ok None) = Unit {0}
-Goes_on at bs (Ok (Some x)) = Ahead at bs x
-Goes_on at bs (Err f) = Unit {0}
+abbrev pub GoesOn : ℕ → List ℕ → Result (Option Found) Fault → Type 0
+GoesOn at bs (Ok None) = Unit {0}
+GoesOn at bs (Ok (Some x)) = Ahead at bs x
+GoesOn at bs (Err f) = Unit {0}
 
 -- each token has the bytes of its sort
 abbrev pub proper : Tok → Bool

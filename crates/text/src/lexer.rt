@@ -3,7 +3,7 @@ ghost use Rattle.std.specs.Prelude.{◌≡◌, ℕ, ◌+◌, ◌^◌, ◌<◌, �
 ghost use Rattle.text.specs.declared.class.Class.TheVariants as classes;
 ghost use Rattle.text.specs.Classes.{class_of, blank, passes};
 ghost use Rattle.text.specs.Tokens.{longest, single, tokens, front, measured, negative, tok};
-ghost use Rattle.text.specs.Answer.{Ahead, Goes_on, TokensProper, answer, begun, shape};
+ghost use Rattle.text.specs.Answer.{Ahead, GoesOn, TokensProper, answer, begun, shape};
 
 use crate::class::{Class, Run, class_of, goes_on, is_blank};
 use crate::token::{Found, Mark, NAME_LIMIT, Sort, Token};
@@ -133,7 +133,7 @@ fn begin<'t>(text: &'t [u8], place: usize) -> Result<Found<'t>, Fault>
 pub fn next_token<'t>(text: &'t [u8], at: usize) -> Result<Option<Found<'t>>, Fault>
     requires { at + length text.now < 2 ^ 64 }
     ensures is { answer (at + length text.now) result ≡ tokens 0 at text.now }
-    ensures ahead { Goes_on at text.now result }
+    ensures ahead { GoesOn at text.now result }
 {
     let mut rest = text;
     let mut place = at;

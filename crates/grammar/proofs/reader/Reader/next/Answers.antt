@@ -1,7 +1,7 @@
 use Rattle.std.proofs.Common.{◌≡◌, ℕ, ◌+◌, ◌<◌, length, Some, None, Ok, Err, sym, refl, ap, ◌∙◌, subst, arith}
 use Rattle.std.proofs.lemmas.Result.{err_from_is_err_and}
 use Rattle.text.specs.Tokens as tokens
-use Rattle.text.specs.Answer.{answer, shape, Goes_on}
+use Rattle.text.specs.Answer.{answer, shape, GoesOn}
 use Rattle.grammar.specs.Reading.{follow}
 use Rattle.grammar.specs.Pull.{view, left, Taken}
 use Rattle.grammar.proofs.Pulling.{on_end, on_fault, finished, taken, refused, final_taken, final_end}
@@ -36,7 +36,7 @@ found : (g : given.Over) (c : In-Some g) → (tokens.token (shape c.in-Some.foun
 found g c =
     let n : ℕ = c.tokens.self.at + length c.tokens.self.rest.now in (
       ap (λ o. answer n (Ok o)) (sym c.in-Some.is) ∙ c.in_ok-next_token.ensures.is,
-      (subst (λ o. Goes_on c.tokens.self.at c.tokens.self.rest.now (Ok o)) c.in-Some.is c.in_ok-next_token.ensures.ahead).1,
+      (subst (λ o. GoesOn c.tokens.self.at c.tokens.self.rest.now (Ok o)) c.in-Some.is c.in_ok-next_token.ensures.ahead).1,
     )
 
 pub returns-in_err-event-in-Some : goal.returns-in_err-event-in-Some
