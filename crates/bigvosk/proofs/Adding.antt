@@ -1,5 +1,5 @@
 -- Bytes added one after another.
-use Rattle.std.proofs.Common.{◌≡◌, ℕ, zero, suc, ◌-◌, ◌<◌, List, [], ◌∷◌, ◌++◌, map, length, get_or, replicate, sym, refl, ap, ◌∙◌, append_assoc, append-nil, arith}
+use Rattle.std.proofs.Common.{◌≡◌, ℕ, zero, suc, ◌-◌, ◌<◌, List, [], ◌∷◌, ◌++◌, map, length, get_or, replicate, sym, ap, ◌∙◌, append_assoc, append-nil, arith}
 use Rattle.text.proofs.Slices.{past, at_first, at_none}
 use Rattle.bigvosk.specs.Windows.{shown_byte}
 

@@ -1,5 +1,5 @@
 -- The lines of a script are the script again.
-use Rattle.std.proofs.Common.{◌≡◌, ℕ, zero, suc, ◌<◌, Bool, true, false, cond, eqb, ◌⊎◌, List, [], ◌∷◌, ◌++◌, length, get_or, sym, refl, ap, ◌∙◌, inl, inr, arith, length-append, eqb-true}
+use Rattle.std.proofs.Common.{◌≡◌, ℕ, zero, suc, Bool, true, false, cond, eqb, ◌⊎◌, List, [], ◌∷◌, ◌++◌, length, refl, ap, inl, inr, arith, length-append, eqb-true}
 use borrow.Author.Tests.{eqb-false}
 use Rattle.bigvosk.specs.Cuts.{Free}
 use Rattle.bigvosk.specs.Scripts.{Lines, Unbroken, ended, led, lines_of}

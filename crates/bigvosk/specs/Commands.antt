@@ -1,5 +1,5 @@
 -- The command that each line of a script is.
-use Rattle.std.specs.Prelude.{ℕ, Bool, true, false, cond, List, [], ◌∷◌, Some, None, codes, Option, ◌==◌, nat_lt}
+use Rattle.std.specs.Prelude.{ℕ, Bool, true, cond, List, [], ◌∷◌, Some, None, codes, Option, ◌==◌, nat_lt}
 use Rattle.std.specs.Str.{bytes_eq}
 use Rattle.bigvosk.specs.declared.line.KindName.{KindName}
 use Rattle.bigvosk.specs.declared.line.KindName.TheVariants.{Words, Numbers}

@@ -1,5 +1,5 @@
 -- What a call answers, by what tables hold.
-use Rattle.std.proofs.Common.{◌≡◌, ℕ, zero, suc, ◌<◌, Bool, true, false, cond, ◌&&◌, eqb, List, [], ◌∷◌, length, take, Ok, Err, Result, sym, refl, ap, ◌∙◌, arith, eqb-true}
+use Rattle.std.proofs.Common.{◌≡◌, ℕ, zero, suc, Bool, true, false, cond, ◌&&◌, eqb, List, [], ◌∷◌, length, take, Ok, Err, Result, refl, ap, ◌∙◌, arith, eqb-true}
 use borrow.Author.Tests.{eqb-false}
 use Rattle.std.proofs.lemmas.Bool.{cond-true, cond-false}
 use Rattle.fault.specs.declared.Fault.{Fault}
@@ -11,7 +11,7 @@ use Rattle.plan.specs.declared.tables.Plan.{Plan}
 use Rattle.plan.specs.Model.{Model, model_of, tables_of}
 use Rattle.plan.specs.Sound.{counts_fit}
 use Rattle.plan.specs.Tests.{atoms_test, cells_test, links_test, names_test, register_test, sound_test}
-use Rattle.placing.specs.Answer.{hang_answer, hung_text, unless_fault}
+use Rattle.placing.specs.Answer.{hang_answer, unless_fault}
 use Rattle.showing.specs.Shown.{show_answer, show_buffer, shown}
 use Rattle.desk.specs.Held.{Ready, held}
 use Rattle.desk.specs.Calls.{hang_told, show_told, shown_over}

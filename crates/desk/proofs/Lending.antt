@@ -1,5 +1,5 @@
 -- Tables that are lent and come back.
-use Rattle.std.proofs.Common.{◌≡◌, ◌<◌, true, false, eqb, List, length, is_ok, Ok, Err, Result, Vec, sym, refl, ap, ◌∙◌, subst, arith, ne_eqb, MatchResult}
+use Rattle.std.proofs.Common.{◌≡◌, true, false, eqb, List, length, is_ok, Ok, Err, Result, Vec, sym, refl, ap, ◌∙◌, subst, arith, ne_eqb, MatchResult}
 use Rattle.std.proofs.lemmas.List.{with_items_is}
 use Rattle.std.proofs.lemmas.Bool.{cond-false, true≢false}
 use Rattle.std.specs.Vec.{with_items}

@@ -1,5 +1,5 @@
 -- The links that the names of a text get: the free link that a name closes, or a number of its own.
-use Rattle.std.proofs.Common.{◌≡◌, ℕ, suc, ◌<◌, ◌≤◌, Bool, true, false, cond, eqb, List, [], ◌∷◌, map, length, get_or, drop, Some, None, Option, sym, refl, ap, ◌∙◌, subst, arith}
+use Rattle.std.proofs.Common.{◌≡◌, ℕ, suc, ◌<◌, ◌≤◌, Bool, true, false, cond, eqb, List, [], ◌∷◌, length, get_or, Some, None, Option, sym, refl, ap, ◌∙◌, subst, arith}
 use Rattle.std.proofs.lemmas.Bool.{cond-true, eq-eqb, eqb-true}
 use Rattle.std.proofs.lemmas.Bool.Decides.{nat_tests}
 use Rattle.text.specs.declared.packed.Name.{Name}
@@ -8,7 +8,7 @@ use Rattle.grammar.specs.Names.{position}
 use Rattle.grammar.specs.State.{times}
 use Rattle.plan.specs.declared.tables.FreeLink.{FreeLink}
 use Rattle.plan.specs.Sound.{count}
-use Rattle.placing.specs.Links.{closed, link_at, linked, links_from, open_link}
+use Rattle.placing.specs.Links.{link_at, linked, links_from, open_link}
 use Rattle.placing.proofs.KeepNames.{newer, news}
 
 pub same_name : (a b : Name) → a.packed ≡ b.packed → a ≡ b

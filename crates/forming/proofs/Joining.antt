@@ -1,5 +1,5 @@
 -- Two ends lie on one link after a text exactly where their points are joined.
-use Rattle.std.proofs.Common.{◌≡◌, ℕ, zero, suc, ◌+◌, ◌<◌, ◌≤◌, Bool, true, false, cond, eqb, ltb, ◌⊎◌, List, [], ◌∷◌, ◌++◌, map, length, get_or, is_some, Some, None, Option, sym, refl, ap, ◌∙◌, subst, ap₂, inl, inr, ⊎_elim, arith}
+use Rattle.std.proofs.Common.{◌≡◌, ℕ, zero, suc, ◌<◌, ◌≤◌, Bool, true, false, cond, eqb, ltb, List, [], ◌∷◌, map, length, get_or, is_some, Some, None, Option, sym, refl, ap, ◌∙◌, subst, ap₂, arith}
 use Rattle.std.specs.Option.{option_map}
 use Rattle.std.specs.List.{slice_get}
 use Rattle.std.proofs.lemmas.Bool.{and_parts, eqb-true, ltb-true}
@@ -15,11 +15,11 @@ use Rattle.grammar.specs.Form.{Items, item_tokens}
 use Rattle.plan.specs.declared.tables.Cell.{Cell}
 use Rattle.plan.specs.declared.tables.FreeLink.{FreeLink}
 use Rattle.plan.specs.Model.{Model}
-use Rattle.plan.specs.Sound.{count, each, ends, is_root, link_limit, port_links, rows}
+use Rattle.plan.specs.Sound.{count, each, ends, is_root, port_links, rows}
 use Rattle.placing.specs.Answer.{hung_text}
 use Rattle.placing.specs.Keeps.{OfText, SoundModel}
-use Rattle.placing.specs.Links.{free_after, link_at, links_from, open_link, unused}
-use Rattle.placing.specs.Placing.{become, begun, links_in, place_all, refreed}
+use Rattle.placing.specs.Links.{free_after, open_link, unused}
+use Rattle.placing.specs.Placing.{become, links_in, refreed}
 use Rattle.placing.proofs.HangSound.{adding_keeps, of_text}
 use Rattle.placing.proofs.KeepAbsorb.{become_rows, length_rows}
 use Rattle.placing.proofs.KeepEach.{count_append, each_standing}
@@ -28,11 +28,10 @@ use Rattle.placing.proofs.KeepNames.{free_links, news}
 use Rattle.placing.proofs.KeepSound.{numbers_enough, unused_new, unused_once}
 use Rattle.placing.proofs.NamesOf.{has_row}
 use Rattle.placing.proofs.OpenNames.{links_length}
-use Rattle.forming.specs.Events.{FormOf}
 use Rattle.forming.specs.Places.{became, connectors, name_link, once, written_atoms}
-use Rattle.forming.specs.Joins.{Among, End, JoinLaw, Joined, LinksJoined, Point, at_row, back, by_connector, by_name, end_link, end_point, free_point, named, old, open_at, port, port_points, same, through}
+use Rattle.forming.specs.Joins.{End, JoinLaw, Joined, LinksJoined, Point, at_row, back, by_connector, by_name, end_link, end_point, named, old, open_at, port, port_points, same, through}
 use Rattle.forming.proofs.Assigned.{Assigned, assigned, different, shut}
-use Rattle.forming.proofs.Ending.{all_lie, all_names, at_row_map, lies, named_rows, old_rows, row_holds, rows_append}
+use Rattle.forming.proofs.Ending.{all_lie, at_row_map, lies, named_rows, old_rows, row_holds, rows_append}
 use Rattle.forming.proofs.Names.{connectors_stand, form_names, times_form, written_least}
 use Rattle.forming.proofs.Opening.{open_after, open_refreed}
 use Rattle.forming.proofs.Placed.{form_is, placed, placed_is}

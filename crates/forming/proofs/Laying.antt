@@ -1,5 +1,5 @@
 -- The items of a form, placed one after another.
-use Rattle.std.proofs.Common.{◌≡◌, ℕ, suc, ◌+◌, ◌-◌, ◌<◌, Bool, true, false, not, ◌&&◌, List, [], ◌∷◌, ◌++◌, map, length, get_or, is_some, Some, None, Option, sym, refl, ap, ◌∙◌, subst, ap₂, append_assoc, append-nil, arith, length-append, length-set, get_or-set_same, set-set}
+use Rattle.std.proofs.Common.{◌≡◌, ℕ, suc, ◌+◌, ◌<◌, true, ◌&&◌, List, [], ◌∷◌, ◌++◌, map, length, get_or, is_some, Some, None, Option, sym, refl, ap, ◌∙◌, subst, ap₂, append_assoc, append-nil, arith, length-append, length-set, get_or-set_same, set-set}
 use lib.ListN as lists
 use lib.Seq.{get_or-append_seam, set-append_left, set-append_seam, set-get_or}
 use Rattle.std.proofs.lemmas.List.{get_or_append_left, map-append}
@@ -9,16 +9,16 @@ use Rattle.text.specs.declared.packed.Name.{Name}
 use Rattle.grammar.specs.declared.event.Event.{Event}
 use Rattle.grammar.specs.declared.event.Event.TheVariants as events
 use Rattle.grammar.specs.Tests.{label_read, set_of}
-use Rattle.grammar.specs.Reading.{Events, event, end, labelled, setting}
+use Rattle.grammar.specs.Reading.{Events, event, labelled, setting}
 use Rattle.grammar.specs.Form.{Items, none, atom, cell, connector, set, label_token}
 use Rattle.plan.specs.declared.tables.Cell.{Cell}
 use Rattle.plan.specs.declared.tables.Census.{Census}
 use Rattle.plan.specs.Model.{Node}
 use Rattle.plan.specs.Sound.{no_cell}
 use Rattle.register.specs.Rows.{added}
-use Rattle.placing.specs.Placing.{Placing, joined, or_root, parent_of, place_all, place_one, with_port}
+use Rattle.placing.specs.Placing.{Placing, joined, or_root, parent_of, place_all, with_port}
 use Rattle.forming.specs.Events.{followed, given, item_events, reads}
-use Rattle.forming.specs.Places.{AtomText, cell_count, connectors, direct_set, joined_by, node, set_or, with_label, written_atoms, written_cells}
+use Rattle.forming.specs.Places.{cell_count, connectors, direct_set, joined_by, node, set_or, with_label, written_atoms, written_cells}
 use Rattle.forming.proofs.Reading.{followed_append}
 
 -- ** Cells

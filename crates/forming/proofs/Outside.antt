@@ -1,12 +1,12 @@
 -- In the order of a text's events no set stands outside of all cells.
-use Rattle.std.proofs.Common.{◌≡◌, ℕ, suc, ◌+◌, ◌-◌, ◌<◌, Bool, true, false, not, ◌&&◌, ltb, leb, List, [], ◌∷◌, ◌++◌, map, Some, None, Option, sym, refl, ap, ◌∙◌, subst, arith}
+use Rattle.std.proofs.Common.{◌≡◌, ℕ, ◌+◌, ◌-◌, Bool, true, false, not, ◌&&◌, ltb, leb, List, [], ◌∷◌, ◌++◌, map, Some, None, Option, refl, ap, ◌∙◌, subst, arith}
 use Rattle.std.proofs.lemmas.Bool.{and_parts, false≢true}
 use Rattle.label.specs.Kind.{Kind}
 use Rattle.text.specs.declared.packed.Name.{Name}
 use Rattle.grammar.specs.declared.event.Event.{Event}
 use Rattle.grammar.specs.declared.event.Event.TheVariants as events
 use Rattle.grammar.specs.Tests.{label_read, set_of}
-use Rattle.grammar.specs.Reading.{Events, event, end, labelled, setting}
+use Rattle.grammar.specs.Reading.{Events, event, labelled, setting}
 use Rattle.grammar.specs.Form.{Items, none, atom, cell, connector, set, label_token}
 use Rattle.placing.specs.Orderly.{depth_after, halfway, may_come, orderly, ports_after}
 use Rattle.forming.specs.Events.{followed, given, item_events}

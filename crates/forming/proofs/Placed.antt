@@ -1,5 +1,5 @@
 -- The plan after a text, by its form.
-use Rattle.std.proofs.Common.{◌≡◌, ℕ, ◌<◌, ◌≤◌, Bool, false, cond, not, ◌&&◌, eqb, List, [], ◌∷◌, ◌++◌, map, length, get_or, None, filter, sym, refl, ap, ◌∙◌, ap₂, append-nil, arith}
+use Rattle.std.proofs.Common.{◌≡◌, ℕ, ◌<◌, Bool, false, cond, not, ◌&&◌, eqb, List, [], ◌∷◌, ◌++◌, map, length, get_or, None, filter, sym, refl, ap, ◌∙◌, ap₂, append-nil, arith}
 use lib.ListN as lists
 use lib.Seq.{set-get_or}
 use Rattle.std.proofs.lemmas.List.{map-append}
@@ -10,16 +10,16 @@ use Rattle.grammar.specs.Reading.{end, hang_events}
 use Rattle.grammar.specs.State.{start}
 use Rattle.grammar.specs.Laws.{fault_of, spots, stream, text_tokens}
 use Rattle.grammar.specs.Form.{Items, item_tokens}
-use Rattle.plan.specs.Model.{Model, Node}
+use Rattle.plan.specs.Model.{Model}
 use Rattle.plan.specs.Sound.{count, link_limit, no_cell, rows}
 use Rattle.placing.specs.Answer.{hung_text}
 use Rattle.placing.specs.Laws.{is_open, stands_once}
 use Rattle.placing.specs.Orderly.{name_standings, orderly}
-use Rattle.placing.specs.Placing.{Placing, become, begun, place_all, relinked}
+use Rattle.placing.specs.Placing.{become, begun, place_all, relinked}
 use Rattle.placing.proofs.HangLaws.{hang_laws}
 use Rattle.placing.proofs.NamesOf.{names_right}
 use Rattle.placing.proofs.Ordering.{orderly_text}
-use Rattle.forming.specs.Events.{FormOf, followed, item_events}
+use Rattle.forming.specs.Events.{FormOf}
 use Rattle.forming.specs.Places.{AtomText, Placed, PlaceLaw, became, direct_set, name_link, node, once, written_atoms, written_cells, written_names}
 use Rattle.forming.proofs.Reading.{form_law}
 use Rattle.forming.proofs.Laying.{laid, lays, settled}

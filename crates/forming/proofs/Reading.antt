@@ -1,7 +1,6 @@
 -- A form that has the tokens of a text says its events.
-use Rattle.std.proofs.Common.{◌≡◌, ℕ, ◌+◌, Bool, true, false, cond, not, ◌&&◌, ltb, List, [], ◌∷◌, ◌++◌, map, length, is_some, Some, None, Ok, Err, Option, Result, sym, refl, ap, ◌∙◌, ap₂, append_assoc, append-nil, arith}
+use Rattle.std.proofs.Common.{◌≡◌, ℕ, ◌+◌, Bool, true, false, not, ◌&&◌, ltb, List, [], ◌∷◌, ◌++◌, map, length, is_some, Some, None, Ok, Option, sym, refl, ap, ◌∙◌, ap₂, append_assoc, append-nil, arith}
 use Rattle.std.proofs.lemmas.Bool.{cond_both, and_from}
-use Rattle.fault.specs.declared.Refusal.{Refusal}
 use Rattle.fault.specs.declared.Refusal.TheVariants.{TextTooLong, Unexpected}
 use Rattle.label.specs.Kind.{Kind}
 use Rattle.text.specs.declared.packed.Name.{Name}
@@ -9,15 +8,15 @@ use Rattle.text.specs.Tokens as tokens
 use Rattle.grammar.specs.declared.event.Event.{Event}
 use Rattle.grammar.specs.declared.event.Event.TheVariants as events
 use Rattle.grammar.specs.declared.stand.Phase.{Phase}
-use Rattle.grammar.specs.declared.stand.Phase.TheVariants.{Start, Item, Label, Ports, Port, First, Second, Set, After}
+use Rattle.grammar.specs.declared.stand.Phase.TheVariants.{Start, Label, Port, After}
 use Rattle.grammar.specs.Seen.{Seen, sees, word, number, name, comma, open_paren, close_paren, open_brace, close_brace, equal, at_sign, other}
 use Rattle.grammar.specs.State.{State, start, next_state, next_phase}
 use Rattle.grammar.specs.Tests.{text_limit, label_read, set_of, foreign_label, wrong_set}
-use Rattle.grammar.specs.Reading.{Events, event, end, fault, follow, judged, event_of, labelled, setting, events_from, hang_events, ended, complete, unless_lone, first_lone, at_place}
+use Rattle.grammar.specs.Reading.{Events, event, end, follow, judged, event_of, labelled, setting, events_from, hang_events, complete, unless_lone, first_lone, at_place}
 use Rattle.grammar.specs.Laws.{spots, fault_of, text_tokens}
-use Rattle.grammar.specs.Form.{Written, by_word, by_number, Items, none, atom, cell, connector, set, more_ports, port_tokens, joined, item_tokens}
+use Rattle.grammar.specs.Form.{by_word, by_number, Items, none, atom, cell, connector, set, more_ports, port_tokens, joined, item_tokens}
 use Rattle.grammar.proofs.Firsts.{reading_laws}
-use Rattle.placing.proofs.Judging.{Right, by_verdict}
+use Rattle.placing.proofs.Judging.{by_verdict}
 use Rattle.forming.proofs.Unique.{one_form}
 use Rattle.forming.specs.Events.{followed, given, item_events, reads, FormOf, FormLaw}
 

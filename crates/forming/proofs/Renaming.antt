@@ -1,21 +1,21 @@
 -- A rewritten form has the same cells, atoms and labels, and joins the renamed names.
-use Rattle.std.proofs.Common.{◌≡◌, ℕ, suc, ◌+◌, ◌<◌, Bool, true, false, cond, eqb, ◌⊎◌, List, [], ◌∷◌, ◌++◌, map, length, is_some, Some, None, Option, sym, refl, ap, ◌∙◌, subst, ap₂, inl, inr, ⊎_elim, arith}
+use Rattle.std.proofs.Common.{◌≡◌, ℕ, suc, ◌+◌, Bool, true, false, cond, eqb, ◌⊎◌, List, [], ◌∷◌, ◌++◌, map, length, is_some, Some, None, Option, sym, refl, ap, ◌∙◌, subst, ap₂, inl, inr, ⊎_elim}
 use Rattle.std.specs.Option.{option_map}
 use Rattle.std.specs.List.{slice_get}
 use Rattle.std.proofs.lemmas.Simd.{map-map}
 use Rattle.std.proofs.lemmas.List.{map-append}
-use Rattle.std.proofs.lemmas.Bool.{cases_eq, cond-true, cond-false, eq-eqb, ne_eqb, eqb-true}
+use Rattle.std.proofs.lemmas.Bool.{cases_eq, eq-eqb, ne_eqb}
 use Rattle.label.specs.Kind.{Kind}
 use Rattle.text.specs.declared.packed.Name.{Name}
 use Rattle.grammar.specs.Tests.{label_read, set_of}
-use Rattle.grammar.specs.Form.{Items, Written, none, atom, cell, connector, set, label_token}
+use Rattle.grammar.specs.Form.{Items, label_token}
 use Rattle.plan.specs.declared.tables.Census.{Census}
 use Rattle.plan.specs.Model.{Model, Node}
 use Rattle.plan.specs.Sound.{count}
 use Rattle.placing.specs.Links.{open_link}
 use Rattle.placing.proofs.KeepEach.{count_append}
 use Rattle.forming.specs.Places.{AtomText, cell_count, connectors, direct_set, once, set_or, with_label, written_atoms, written_cells}
-use Rattle.forming.specs.Joins.{Among, End, Joined, Point, at_row, back, by_connector, by_name, end_point, free_point, named, old, open_at, port, port_points, same, through}
+use Rattle.forming.specs.Joins.{Among, End, Joined, Point, at_row, back, by_connector, by_name, end_point, named, old, open_at, port, port_points, same, through}
 use Rattle.forming.specs.Rewriting.{KeepsSingle, Naming, Rewritten, as_atom, as_cell, as_connector, as_none, as_set, turned}
 use Rattle.forming.proofs.Assigned.{same_name}
 use Rattle.forming.proofs.Ending.{at_row_map}

@@ -8,18 +8,17 @@ use Rattle.text.specs.declared.packed.Name.{Name}
 use Rattle.grammar.specs.Reading.{hang_events}
 use Rattle.grammar.specs.Laws.{fault_of, text_tokens}
 use Rattle.grammar.specs.Form.{Items, item_tokens}
-use Rattle.plan.specs.Model.{Model, Node}
+use Rattle.plan.specs.Model.{Model}
 use Rattle.placing.specs.Answer.{hung_text}
 use Rattle.placing.specs.Keeps.{SoundModel}
 use Rattle.placing.specs.Laws.{Shape, is_open, shape}
 use Rattle.placing.specs.Placing.{become, relinked}
 use Rattle.placing.proofs.HangSound.{hang_sound}
 use Rattle.placing.proofs.Staying.{shape_relinked}
-use Rattle.forming.specs.Places.{AtomText, Placed, became, name_link, node, once, written_atoms, written_cells, written_names}
-use Rattle.forming.specs.Joins.{End, Joined, LinksJoined, Point, end_link, end_point}
+use Rattle.forming.specs.Places.{AtomText, Placed, became, name_link, node, once, written_atoms, written_names}
+use Rattle.forming.specs.Joins.{End, LinksJoined, Point, end_link, end_point}
 use Rattle.forming.specs.Rewriting.{KeepsSingle, Naming, RewritingLaw, Rewritten, SameButLinks, as_atom, as_cell, as_connector, as_none, as_set, turned}
 use Rattle.forming.proofs.Joining.{links_joined, rooted}
-use Rattle.forming.proofs.Laying.{register_after}
 use Rattle.forming.proofs.Placed.{placed, placed_is}
 use Rattle.forming.proofs.Same.{reordered}
 use Rattle.forming.proofs.Renaming.{atom_renamed, moved, moves, moves_back, once_same, once_to, points_moved, same_atoms, same_cells, same_register}

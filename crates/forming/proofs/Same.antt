@@ -1,5 +1,5 @@
 -- Plans with the same ends on one link are one plan, but for the numbers of links and the rows of free links.
-use Rattle.std.proofs.Common.{◌≡◌, ℕ, zero, suc, ◌+◌, ◌<◌, ◌≤◌, Bool, true, false, cond, ◌&&◌, eqb, ◌⊎◌, List, [], ◌∷◌, ◌++◌, map, length, is_some, Some, None, Option, sym, refl, ap, ◌∙◌, subst, ap₂, inl, inr, ⊎_elim, arith, length-append}
+use Rattle.std.proofs.Common.{◌≡◌, ℕ, zero, suc, ◌+◌, ◌<◌, ◌≤◌, Bool, true, false, cond, eqb, List, [], ◌∷◌, ◌++◌, map, length, is_some, Some, None, Option, sym, refl, ap, ◌∙◌, subst, ap₂, inl, inr, ⊎_elim, arith, length-append}
 use Rattle.std.specs.List.{slice_get}
 use Rattle.std.proofs.lemmas.List.{length-map}
 use Rattle.std.proofs.lemmas.Bool.{and_parts, cases_eq, cases_lt, cond-true, cond-false, eq-eqb, ne_eqb, eqb-true}
@@ -8,8 +8,8 @@ use Rattle.text.specs.declared.packed.Name.{Name}
 use Rattle.plan.specs.declared.tables.Cell.{Cell}
 use Rattle.plan.specs.declared.tables.FreeLink.{FreeLink}
 use Rattle.plan.specs.Model.{Model, Node}
-use Rattle.plan.specs.Sound.{count, distinct, ends, port_links, rows}
-use Rattle.placing.specs.Laws.{Shape, shape}
+use Rattle.plan.specs.Sound.{count, distinct, port_links, rows}
+use Rattle.placing.specs.Laws.{shape}
 use Rattle.placing.specs.Links.{open_link}
 use Rattle.placing.proofs.KeepEach.{count_append, distinct_once}
 use Rattle.placing.proofs.KeepNames.{free_links, free_names}

@@ -1,5 +1,5 @@
 -- The table of a text's names has them in the order of the form.
-use Rattle.std.proofs.Common.{◌≡◌, ℕ, suc, ◌+◌, ◌<◌, ◌≤◌, Bool, true, false, cond, not, ◌&&◌, eqb, ◌⊎◌, List, [], ◌∷◌, ◌++◌, map, length, filter, sym, refl, ap, ◌∙◌, subst, ap₂, inl, inr, ⊎_elim, append_assoc, append-nil, arith}
+use Rattle.std.proofs.Common.{◌≡◌, ℕ, suc, ◌+◌, ◌<◌, ◌≤◌, Bool, true, false, cond, not, ◌&&◌, eqb, List, [], ◌∷◌, ◌++◌, map, filter, sym, refl, ap, ◌∙◌, subst, ap₂, ⊎_elim, append_assoc, append-nil, arith}
 use Rattle.std.proofs.lemmas.List.Elements.{filter-append}
 use Rattle.std.proofs.lemmas.List.{map-append}
 use Rattle.std.proofs.lemmas.Bool.{and_parts, cases_eq, cond-true, cond-false, eq-eqb, ne_eqb, eqb-true}
@@ -9,11 +9,10 @@ use Rattle.grammar.specs.declared.stand.Standing.{Standing}
 use Rattle.grammar.specs.Seen.{Seen, word, number, name, comma, open_paren, close_paren, open_brace, close_brace, equal, at_sign, other}
 use Rattle.grammar.specs.State.{State, next_names, next_state, noted, times}
 use Rattle.grammar.specs.Laws.{Spot, state_after}
-use Rattle.grammar.specs.Form.{Written, by_word, by_number, Items, none, atom, cell, connector, set, more_ports, port_tokens, joined, item_tokens}
+use Rattle.grammar.specs.Form.{by_word, by_number, Items, none, atom, cell, connector, set, more_ports, port_tokens, joined, item_tokens}
 use Rattle.plan.specs.Sound.{count, distinct}
 use Rattle.placing.specs.NamesOf.{packed_names}
 use Rattle.placing.proofs.KeepEach.{count_append}
-use Rattle.placing.proofs.KeepNames.{times_none}
 use Rattle.placing.proofs.NamesOf.{noted_times}
 use Rattle.forming.specs.Places.{written_names}
 use Rattle.forming.proofs.Names.{packed_of}

@@ -11,7 +11,7 @@ use Rattle.grammar.specs.declared.event.Event.{Event}
 use Rattle.grammar.specs.Seen.{Seen, sees}
 use Rattle.grammar.specs.State.{State, next_state, next_phase, next_cells}
 use Rattle.grammar.specs.Tests.{allowed, unexpected}
-use Rattle.grammar.specs.Reading.{Events, end, fault, judged, follow, unless_lone, at_place, complete, first_lone, events_from}
+use Rattle.grammar.specs.Reading.{Events, judged, follow, unless_lone, at_place, complete, first_lone, events_from}
 use Rattle.grammar.specs.Laws.{Spot, spots, text_fault, state_after, fault_of, token_test}
 use Rattle.grammar.proofs.Automaton.{runs}
 use Rattle.grammar.proofs.Places.{end_place}

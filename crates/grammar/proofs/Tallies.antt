@@ -1,7 +1,6 @@
 -- What reading a text answers.
-use Rattle.std.proofs.Common.{◌≡◌, ℕ, ◌+◌, ◌≤◌, Bool, true, false, cond, ltb, List, length, Some, None, Ok, Err, Result, sym, refl, ap, ◌∙◌, arith}
-use Rattle.std.proofs.lemmas.Bool.{cond-true, cond-false}
-use Rattle.std.proofs.lemmas.Bool.Decides.{nat_tests}
+use Rattle.std.proofs.Common.{◌≡◌, ℕ, ◌+◌, ◌≤◌, Bool, true, false, cond, ltb, List, length, Ok, Err, Result, refl, ap, arith}
+use Rattle.std.proofs.lemmas.Bool.{cond-false}
 use Rattle.fault.specs.declared.Refusal.TheVariants.{TextTooLong}
 use Rattle.fault.specs.declared.Fault.{Fault}
 use Rattle.label.specs.Kind.{Kind}
@@ -14,7 +13,7 @@ use Rattle.grammar.specs.Tests.{text_limit}
 use Rattle.grammar.specs.Reading.{Events, event, end, fault, at_place, events_from, hang_events}
 use Rattle.grammar.specs.Laws.{fault_of}
 use Rattle.grammar.specs.Pull.{limited}
-use Rattle.grammar.specs.Sheets.{empty, tally, tallied, with_once, refusal_of}
+use Rattle.grammar.specs.Sheets.{tally, tallied, with_once, refusal_of}
 
 pub tallied_event : {L : Type 0} (s : Sheet) (e : Event L) (rest : Events L) → tallied s (event e rest) ≡ tallied (tally s e) rest
 unfolding tallied

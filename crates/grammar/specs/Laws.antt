@@ -1,5 +1,5 @@
 -- What the reading of a hang means, in terms of its tokens.
-use Rattle.std.specs.Prelude.{◌≡◌, ℕ, ◌+◌, ◌<◌, ◌≤◌, Bool, true, false, ◌⊎◌, List, [], ◌∷◌, ◌++◌, map, length, Some, None, Option, ◌≢◌}
+use Rattle.std.specs.Prelude.{◌≡◌, ℕ, ◌<◌, ◌≤◌, Bool, true, false, ◌⊎◌, List, [], ◌∷◌, ◌++◌, map, length, Some, None, Option, ◌≢◌}
 use Rattle.fault.specs.declared.Refusal.{Refusal}
 use Rattle.fault.specs.declared.Refusal.TheVariants.{TextTooLong, NoToken, LongName, ForeignLabel, Unexpected, TooDeep, NinthPort, HangName, MisplacedSet, TooManyItems, TooManyRules, SetNumber, RuleName, EmptyLeft, LeftConnector, RestOrContext, DraftRow, Budget, TallyLength, ShortPage, UnsoundPlan, FullTables, FewRows, ShortBuffer}
 use Rattle.fault.specs.declared.Fault.{Fault}

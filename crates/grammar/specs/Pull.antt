@@ -1,5 +1,5 @@
 -- What a reader has yet to give.
-use Rattle.std.specs.Prelude.{◌≡◌, ℕ, ◌<◌, ◌≤◌, cond, List, length, Some, None, Ok, Err, Option, Result, nat_lt}
+use Rattle.std.specs.Prelude.{◌≡◌, ℕ, ◌<◌, cond, List, length, Some, None, Ok, Err, Option, Result, nat_lt}
 use Rattle.fault.specs.declared.Refusal.TheVariants.{TextTooLong}
 use Rattle.fault.specs.declared.Fault.{Fault}
 use Rattle.label.specs.Kind.{Kind}

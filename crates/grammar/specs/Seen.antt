@@ -1,5 +1,5 @@
 -- Tokens, as far as the grammar of hangs tells them apart.
-use Rattle.std.specs.Prelude.{ℕ, Bool, true, false, List}
+use Rattle.std.specs.Prelude.{ℕ, List}
 use Rattle.text.specs.declared.token.Mark.{Mark}
 use Rattle.text.specs.declared.token.Mark.TheVariants as marks
 use Rattle.text.specs.declared.packed.Name.{Name}

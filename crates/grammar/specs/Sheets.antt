@@ -1,5 +1,5 @@
 -- What a text holds, in numbers.
-use Rattle.std.specs.Prelude.{◌≡◌, ℕ, ◌+◌, Bool, cond, List, [], ◌∷◌, Some, None, Ok, Err, Option, Result}
+use Rattle.std.specs.Prelude.{ℕ, ◌+◌, cond, List, [], ◌∷◌, Some, None, Ok, Err, Option, Result}
 use Rattle.fault.specs.declared.Fault.{Fault}
 use Rattle.label.specs.Kind.{Kind}
 use Rattle.text.specs.Tokens.{tokens}

@@ -1,14 +1,12 @@
 -- The free links after a text, one after another.
-use Rattle.std.proofs.Common.{◌≡◌, ℕ, zero, suc, ◌+◌, ◌<◌, ◌≤◌, Bool, true, false, cond, List, [], ◌∷◌, ◌++◌, length, get_or, take, filter, sym, refl, ap, ◌∙◌, subst, append_assoc, append-nil, arith}
+use Rattle.std.proofs.Common.{◌≡◌, ℕ, zero, suc, ◌+◌, ◌<◌, Bool, true, false, cond, List, [], ◌∷◌, ◌++◌, length, get_or, take, filter, sym, refl, ap, ◌∙◌, subst, append_assoc, append-nil, arith}
 use Rattle.std.proofs.lemmas.List.Elements.{filter_more}
-use Rattle.std.proofs.lemmas.List.{take_all}
 use Rattle.grammar.specs.declared.stand.Standing.{Standing}
 use Rattle.plan.specs.declared.tables.FreeLink.{FreeLink}
-use Rattle.plan.proofs.Naming.{no_link}
-use Rattle.placing.specs.Links.{opened, opens, stays}
+use Rattle.placing.specs.Links.{opened, opens}
 use Rattle.hang.specs.Rows.{Filled, pushed}
 use Rattle.hang.proofs.Assigning.{no_standing}
-use Rattle.hang.proofs.Filling.{filled_more, filled_none}
+use Rattle.hang.proofs.Filling.{filled_more}
 
 pub kept_one : {A : Type 0} (d : A) (p : A → Bool) (xs : List A) (i : ℕ) (out : List A) (n : ℕ) → i < length xs → p (get_or xs i d) ≡ true → Filled out n (filter p (take i xs)) → Filled (pushed out n (get_or xs i d)) (n + 1) (filter p (take (i + 1) xs))
 kept_one d p xs i out n h e f =

@@ -1,13 +1,11 @@
 -- A text without fault on a sound plan.
-use Rattle.std.proofs.Common.{◌≡◌, ℕ, ◌+◌, ◌-◌, ◌<◌, ◌≤◌, min, Bool, true, false, cond, ◌&&◌, ltb, leb, List, [], ◌∷◌, ◌++◌, map, length, take, None, Ok, Err, sym, refl, ap, ◌∙◌, subst, ap₂, ⊎_elim, arith, length-take}
+use Rattle.std.proofs.Common.{◌≡◌, ℕ, ◌+◌, ◌-◌, ◌<◌, ◌≤◌, min, Bool, true, false, cond, ◌&&◌, ltb, leb, List, [], map, length, take, None, Ok, Err, sym, refl, ap, ◌∙◌, subst, ap₂, ⊎_elim, arith, length-take}
 use Rattle.std.proofs.lemmas.List.{length-map}
 use Rattle.std.proofs.lemmas.Bool.{and_from, and_parts, both_ways, cases_lt, cond-false, cond-true, le-leb, le-ltb, leb-true, lt-ltb}
 use Rattle.fault.specs.declared.Refusal.TheVariants.{UnsoundPlan, FullTables}
 use Rattle.label.specs.Kind.{Kind, Lawful}
 use Rattle.text.specs.declared.packed.Name.{Name}
 use Rattle.text.specs.Tokens as tokens
-use Rattle.grammar.specs.declared.event.Event.{Event}
-use Rattle.grammar.specs.declared.event.Event.TheVariants as events
 use Rattle.grammar.specs.declared.reader.Reader.{Reader}
 use Rattle.grammar.specs.declared.stand.Standing.{Standing}
 use Rattle.grammar.specs.declared.sheet.Sheet.{Sheet}
@@ -19,7 +17,7 @@ use Rattle.grammar.specs.Sheets.{text_names}
 use Rattle.grammar.specs.State.{State, start}
 use Rattle.plan.specs.declared.tables.FreeLink.{FreeLink}
 use Rattle.plan.specs.declared.tables.Plan.{Plan}
-use Rattle.plan.specs.Model.{Model, SameTables, model_of, node_of}
+use Rattle.plan.specs.Model.{Model, model_of, node_of}
 use Rattle.plan.specs.Places.{Filed}
 use Rattle.plan.specs.Sound.{Sound, counts_fit, room}
 use Rattle.plan.specs.Tests.{sound_test}
@@ -29,17 +27,17 @@ use Rattle.placing.specs.Keeps.{SoundModel}
 use Rattle.placing.specs.Laws.{HangLaws}
 use Rattle.placing.specs.Links.{free_after, link_at}
 use Rattle.placing.specs.Orderly.{may_come, orderly, depth_after, halfway, ports_after}
-use Rattle.placing.specs.Placing.{absorbed, begun, links_in, place_all, refreed}
+use Rattle.placing.specs.Placing.{begun, links_in, place_all, refreed}
 use Rattle.placing.proofs.Counting.{events_right}
 use Rattle.placing.proofs.HangLaws.{hang_laws}
 use Rattle.placing.proofs.HangSound.{hang_sound}
 use Rattle.placing.proofs.KeepGoing.{goes_from}
 use Rattle.placing.proofs.KeepNames.{length_links}
 use Rattle.placing.proofs.KeepPlan.{model_sound, plan_sound}
-use Rattle.hang.specs.Hand.{Placeable, Placed, fresh_hand, placing_of}
+use Rattle.hang.specs.Hand.{Placeable, Placed, fresh_hand}
 use Rattle.hang.specs.Labels.{all_mine, is_mine, lacking}
 use Rattle.hang.specs.Rows.{Filled}
-use Rattle.hang.specs.Text.{Hangable, Hung, atoms_fit, cells_fit, free_fit, has_room, labels_fit}
+use Rattle.hang.specs.Text.{Hangable, atoms_fit, cells_fit, free_fit, has_room, labels_fit}
 use Rattle.hang.proofs.Filling.{filled_whole}
 use Rattle.hang.proofs.Lacking.{lacks}
 use Rattle.hang.proofs.Registering.{register_filed}

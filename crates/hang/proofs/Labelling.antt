@@ -1,11 +1,11 @@
 -- The labels that a register lacks, one after another.
-use Rattle.std.proofs.Common.{◌≡◌, ℕ, ◌+◌, ◌-◌, ◌<◌, Bool, true, false, cond, ◌&&◌, ◌||◌, ltb, List, [], ◌∷◌, ◌++◌, length, get_or, take, set, Some, None, Option, sym, refl, ap, ◌∙◌, arith}
+use Rattle.std.proofs.Common.{◌≡◌, ℕ, ◌+◌, ◌-◌, ◌<◌, true, false, cond, ◌||◌, ltb, List, [], ◌∷◌, ◌++◌, length, get_or, take, set, sym, refl, ap, ◌∙◌, arith}
 use Rattle.std.proofs.lemmas.List.{take_more_set}
 use Rattle.std.proofs.lemmas.Bool.{and_parts, cond-true, cond-false, lt-ltb}
 use Rattle.text.proofs.Slices.{past, at_first, at_none}
 use Rattle.label.specs.Kind.{Kind}
 use Rattle.grammar.specs.declared.event.Event.{Event}
-use Rattle.grammar.specs.Reading.{Events, event, end, fault}
+use Rattle.grammar.specs.Reading.{Events, event, end}
 use Rattle.plan.specs.declared.tables.Census.{Census}
 use Rattle.plan.specs.Sound.{registered}
 use Rattle.placing.specs.Counts.{labels_at, labels_in, summed}

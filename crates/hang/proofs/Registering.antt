@@ -1,14 +1,13 @@
 -- What a right register has.
-use Rattle.std.proofs.Common.{◌≡◌, ℕ, suc, ◌<◌, ◌≤◌, Bool, true, false, cond, ◌&&◌, eqb, ltb, List, [], ◌∷◌, map, length, take, sym, refl, ap, ◌∙◌, arith, length-take}
+use Rattle.std.proofs.Common.{◌≡◌, ℕ, suc, ◌≤◌, true, false, cond, ltb, List, [], ◌∷◌, map, length, take, arith, length-take}
 use Rattle.std.proofs.lemmas.List.{length-map}
 use Rattle.std.proofs.lemmas.Bool.{and_parts, eqb-true, lt-ltb}
-use Rattle.std.proofs.lemmas.Bool.Decides.{nat_tests}
 use Rattle.label.specs.Kind.{Kind}
 use Rattle.plan.specs.declared.tables.Atom.{Atom}
 use Rattle.plan.specs.declared.tables.Census.{Census}
 use Rattle.plan.specs.Model.{Node, node_of}
 use Rattle.plan.specs.Places.{Filed}
-use Rattle.plan.specs.Sound.{alike, ascending, atoms_of, each, registered, row_right}
+use Rattle.plan.specs.Sound.{alike, ascending, atoms_of, each, row_right}
 use Rattle.plan.specs.Tests.{register_test}
 use Rattle.register.proofs.Counting.{each_from, right_mine}
 

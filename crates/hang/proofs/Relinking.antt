@@ -1,13 +1,12 @@
 -- Loops that put links in place of others.
-use Rattle.std.proofs.Common.{◌≡◌, ℕ, zero, suc, ◌+◌, ◌-◌, ◌<◌, ◌≤◌, Bool, true, false, cond, ◌&&◌, leb, List, [], ◌∷◌, ◌++◌, map, length, get_or, take, drop, set, sym, refl, ap, ◌∙◌, ap₂, append-nil, arith, length-append, length-take}
+use Rattle.std.proofs.Common.{◌≡◌, ℕ, ◌+◌, ◌<◌, ◌≤◌, ◌&&◌, leb, List, [], ◌∷◌, ◌++◌, map, length, get_or, take, drop, set, sym, refl, ap, ◌∙◌, ap₂, append-nil, arith, length-take}
 use lib.Seq.{take-append-le}
 use Rattle.std.proofs.lemmas.List.{get_or_default, drop_all, length-map, map_push, take_all, take_more, take_more_set, take-map}
 use Rattle.std.proofs.lemmas.List.Edits.{map_over_more}
 use Rattle.plan.specs.declared.tables.Atom.{Atom}
-use Rattle.plan.specs.declared.tables.FreeLink.{FreeLink}
 use Rattle.plan.specs.Model.{Node, node_of}
 use Rattle.plan.specs.Sound.{each}
-use Rattle.placing.specs.Placing.{become, refreed, relinked}
+use Rattle.placing.specs.Placing.{become, relinked}
 
 -- the next element is written
 pub map_next : {X : Type 0} (f : X → X) (xs ys : List X) (i : ℕ) (d v : X) → i < length xs → length ys ≡ length xs → ys ≡ map f (take i xs) ++ drop i xs → v ≡ f (get_or ys i d) → set ys i v ≡ map f (take (i + 1) xs) ++ drop (i + 1) xs

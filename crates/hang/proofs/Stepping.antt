@@ -1,5 +1,5 @@
 -- One event more is placed.
-use Rattle.std.proofs.Common.{◌≡◌, ℕ, suc, ◌+◌, ◌<◌, ◌≤◌, min, Bool, true, false, cond, not, ◌&&◌, eqb, ltb, leb, List, [], ◌∷◌, ◌++◌, map, length, take, sym, refl, ap, ◌∙◌, subst, arith, length-take}
+use Rattle.std.proofs.Common.{◌≡◌, ℕ, ◌+◌, ◌<◌, ◌≤◌, Bool, true, not, ◌&&◌, ltb, List, [], ◌∷◌, map, length, take, sym, refl, ap, ◌∙◌, subst, arith, length-take}
 use Rattle.std.proofs.lemmas.List.{length-map}
 use Rattle.std.proofs.lemmas.Bool.{and_parts, eqb-true, leb-true, ltb-true}
 use Rattle.label.specs.Kind.{Kind, Lawful}
@@ -7,12 +7,10 @@ use Rattle.text.specs.declared.packed.Name.{Name}
 use Rattle.grammar.specs.declared.event.Event.{Event}
 use Rattle.grammar.specs.declared.event.Event.TheVariants as events
 use Rattle.grammar.specs.Reading.{Events, event, end, fault}
-use Rattle.plan.specs.declared.tables.Atom.{Atom}
 use Rattle.plan.specs.declared.tables.Plan.{Plan}
 use Rattle.plan.specs.Model.{Node, SameTables, model_of, node_of}
-use Rattle.register.specs.Rows.{added}
 use Rattle.register.proofs.Adding.{added_longer, adding}
-use Rattle.placing.specs.Counts.{cells_at, cells_in, labels_at, labels_in, summed}
+use Rattle.placing.specs.Counts.{cells_at, labels_at, summed}
 use Rattle.placing.specs.Keeps.{AddingKeeps}
 use Rattle.placing.specs.Orderly.{depth_after, halfway, may_come, orderly, ports_after, proper_name}
 use Rattle.placing.specs.Placing.{Placing, place_all, place_one}

@@ -1,13 +1,12 @@
 -- A plan and a hand, while the events of a text are placed.
-use Rattle.std.specs.Prelude.{◌≡◌, ℕ, suc, ◌+◌, ◌<◌, ◌≤◌, min, Bool, true, false, ◌&&◌, List, [], ◌∷◌, length, take, nat_le}
+use Rattle.std.specs.Prelude.{◌≡◌, ℕ, ◌+◌, ◌<◌, ◌≤◌, min, Bool, true, List, [], ◌∷◌, length, take, nat_le}
 use Rattle.label.specs.Kind.{Kind}
 use Rattle.text.specs.declared.packed.Name.{Name}
 use Rattle.grammar.specs.declared.event.Event.{Event}
 use Rattle.grammar.specs.declared.event.Event.TheVariants as events
 use Rattle.grammar.specs.Reading.{Events}
-use Rattle.plan.specs.declared.tables.Atom.{Atom}
 use Rattle.plan.specs.declared.tables.Plan.{Plan}
-use Rattle.plan.specs.Model.{Model, Node, SameTables, model_of}
+use Rattle.plan.specs.Model.{Node, SameTables, model_of}
 use Rattle.plan.specs.Sound.{atom_limit, cell_limit, each, link_limit, port_limit, rows}
 use Rattle.plan.specs.Tests.{register_test}
 use Rattle.register.specs.Rows.{added}

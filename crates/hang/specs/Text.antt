@@ -1,7 +1,6 @@
 -- A text without fault on a sound plan.
 use Rattle.std.specs.Prelude.{◌≡◌, ℕ, ◌+◌, ◌≤◌, Bool, true, false, ◌&&◌, List, length, None, nat_le}
 use Rattle.label.specs.Kind.{Kind}
-use Rattle.grammar.specs.declared.sheet.Sheet.{Sheet}
 use Rattle.grammar.specs.Laws.{fault_of}
 use Rattle.grammar.specs.Reading.{hang_events}
 use Rattle.plan.specs.declared.tables.Plan.{Plan}

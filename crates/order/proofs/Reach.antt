@@ -4,7 +4,7 @@ use Rattle.std.proofs.lemmas.Bool.Decides.{nat_tests}
 use Rattle.std.proofs.lemmas.Bool.{cases_eq}
 use Rattle.order.specs.Trying.{AllTried, Lawful, Meaning, Reaches, answer, most}
 
--- where f is one_to_one below n and stays below n, each number below n is a value of f: take the last argument away, and let what had the
+-- where f is one-to-one below n and stays below n, each number below n is a value of f: take the last argument away, and let what had the
 -- value n have its value
 pub hits : (n : ℕ) (f : ℕ → ℕ) → ((k : ℕ) → k < n → f k < n) → ((j k : ℕ) → j < n → k < n → f j ≡ f k → j ≡ k) → (r : ℕ) → r < n → (k : ℕ) × (k < n) × (f k ≡ r)
 hits zero f low one r l = absurd (omega arith)

@@ -1,9 +1,9 @@
 -- The atoms of a plan with one port more.
-use Rattle.std.proofs.Common.{◌≡◌, ℕ, zero, suc, ◌+◌, ◌-◌, ◌<◌, ◌≤◌, Bool, true, false, cond, not, ◌&&◌, ◌||◌, eqb, ltb, leb, List, [], ◌∷◌, ◌++◌, map, length, sym, refl, ap, ◌∙◌, ap₂, append_assoc, append-nil, arith, length-append}
-use Rattle.std.proofs.lemmas.Bool.{and_from, and_parts, eqb-true, eq-eqb, le-leb, leb-true}
+use Rattle.std.proofs.Common.{◌≡◌, ℕ, suc, ◌+◌, ◌-◌, ◌<◌, ◌≤◌, Bool, true, cond, ◌&&◌, eqb, ltb, leb, List, [], ◌∷◌, ◌++◌, map, length, sym, refl, ap, ◌∙◌, ap₂, append_assoc, append-nil, arith, length-append}
+use Rattle.std.proofs.lemmas.Bool.{and_from, and_parts, eqb-true, le-leb, leb-true}
 use Rattle.label.specs.Kind.{Kind}
 use Rattle.plan.specs.declared.tables.Census.{Census}
-use Rattle.plan.specs.Model.{Model, Node}
+use Rattle.plan.specs.Model.{Node}
 use Rattle.plan.specs.Sound.{alike, ascending, atoms_of, each, port_links, registered, row_right}
 use Rattle.plan.specs.Tests.{register_test}
 use Rattle.placing.specs.Placing.{relinked, with_port}

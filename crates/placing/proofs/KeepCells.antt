@@ -1,9 +1,9 @@
 -- The cells and the atoms of a plan while a text is placed on it.
-use Rattle.std.proofs.Common.{◌≡◌, ℕ, zero, suc, ◌+◌, ◌-◌, ◌<◌, ◌≤◌, Bool, true, false, cond, not, ◌&&◌, ◌||◌, eqb, ltb, leb, List, [], ◌∷◌, ◌++◌, map, length, get_or, set, Some, None, Option, sym, refl, ap, ◌∙◌, subst, ap₂, inl, inr, ⊎_elim, arith, length-append, length-set, get_or-set_other, get_or-set_same}
+use Rattle.std.proofs.Common.{◌≡◌, ℕ, zero, suc, ◌+◌, ◌-◌, ◌<◌, ◌≤◌, Bool, true, false, ◌&&◌, eqb, ltb, List, [], ◌∷◌, ◌++◌, length, get_or, set, Some, None, Option, sym, refl, ap, ◌∙◌, ⊎_elim, arith, length-append, length-set, get_or-set_other, get_or-set_same}
 use Rattle.std.proofs.lemmas.List.{get_or_append_left, get_or_past, get_or_push, set_past}
-use Rattle.std.proofs.lemmas.Bool.{and_from, and_parts, both_ways, cases_eq, cases_lt, eq-eqb, eqb-true, le-leb, leb-true, lt-ltb, ltb-true, or_cases, or_left, or_right}
+use Rattle.std.proofs.lemmas.Bool.{and_from, and_parts, both_ways, cases_eq, cases_lt, eqb-true, lt-ltb, ltb-true, or_cases, or_left, or_right}
 use Rattle.plan.specs.declared.tables.Cell.{Cell}
-use Rattle.plan.specs.Sound.{all_lead, each, is_root, leads, no_cell, onward, rows}
+use Rattle.plan.specs.Sound.{all_lead, is_root, leads, no_cell, onward}
 use Rattle.placing.specs.Placing.{or_root, parent_of, with_set}
 use Rattle.placing.proofs.KeepEach.{each_row, row_each}
 

@@ -1,5 +1,5 @@
 -- The links of a text's names are in the limit.
-use Rattle.std.proofs.Common.{◌≡◌, ℕ, suc, ◌<◌, ◌≤◌, Bool, true, false, cond, ◌&&◌, eqb, ltb, List, [], ◌∷◌, map, length, get_or, drop, Some, None, Option, sym, refl, ap, ◌∙◌, arith}
+use Rattle.std.proofs.Common.{◌≡◌, ℕ, ◌≤◌, Bool, true, false, cond, eqb, ltb, List, [], ◌∷◌, length, Some, None, Option, sym, refl, ◌∙◌, arith}
 use Rattle.std.proofs.lemmas.Bool.{and_from, and_parts, lt-ltb}
 use Rattle.label.specs.Kind.{Kind}
 use Rattle.text.specs.declared.packed.Name.{Name}
@@ -7,7 +7,7 @@ use Rattle.grammar.specs.declared.stand.Standing.{Standing}
 use Rattle.grammar.specs.Reading.{Events}
 use Rattle.plan.specs.declared.tables.FreeLink.{FreeLink}
 use Rattle.plan.specs.Model.{Model}
-use Rattle.plan.specs.Sound.{each, ends, port_links}
+use Rattle.plan.specs.Sound.{each, port_links}
 use Rattle.plan.proofs.Each.{each_append}
 use Rattle.placing.specs.Keeps.{AddingKeeps, OfText, SoundModel}
 use Rattle.placing.specs.Links.{closed, linked, links_from, open_link, unused}

@@ -1,6 +1,6 @@
 -- A plan stays sound in its cells, atoms and register while the events of a text are placed on it.
-use Rattle.std.proofs.Common.{◌≡◌, ℕ, zero, suc, ◌+◌, ◌-◌, ◌<◌, ◌≤◌, Bool, true, false, cond, not, ◌&&◌, ◌||◌, eqb, ltb, leb, List, [], ◌∷◌, ◌++◌, map, length, get_or, Some, None, Option, sym, refl, ap, ◌∙◌, subst, ap₂, append-nil, arith, length-append, length-set}
-use Rattle.std.proofs.lemmas.Bool.{and_from, and_parts, both_ways, eqb-true, eq-eqb, le-leb, leb-true, lt-ltb, ltb-true}
+use Rattle.std.proofs.Common.{◌≡◌, ℕ, ◌<◌, ◌≤◌, Bool, true, not, ◌&&◌, eqb, ltb, leb, List, [], ◌∷◌, ◌++◌, length, get_or, Some, None, refl, ◌∙◌, subst, arith, length-append, length-set}
+use Rattle.std.proofs.lemmas.Bool.{and_parts, eqb-true, lt-ltb, ltb-true}
 use Rattle.label.specs.Kind.{Kind}
 use Rattle.text.specs.declared.packed.Name.{Name}
 use Rattle.grammar.specs.declared.event.Event.{Event}
@@ -8,13 +8,12 @@ use Rattle.grammar.specs.declared.event.Event.TheVariants as events
 use Rattle.grammar.specs.Laws.{fault_of}
 use Rattle.grammar.specs.Reading.{Events, event, end, fault}
 use Rattle.plan.specs.declared.tables.Cell.{Cell}
-use Rattle.plan.specs.declared.tables.Census.{Census}
 use Rattle.plan.specs.Model.{Model, Node}
-use Rattle.plan.specs.Sound.{all_lead, each, is_root, no_cell, port_links}
+use Rattle.plan.specs.Sound.{all_lead, each, is_root, no_cell}
 use Rattle.plan.specs.Tests.{register_test}
 use Rattle.placing.specs.Keeps.{AddingKeeps, SoundModel}
 use Rattle.placing.specs.Orderly.{depth_after, halfway, may_come, orderly, ports_after, proper_name}
-use Rattle.placing.specs.Placing.{Placing, begun, place_all, place_one, parent_of, with_port, with_set}
+use Rattle.placing.specs.Placing.{Placing, begun, place_all, place_one, with_set}
 use Rattle.placing.proofs.KeepEach.{each_join, each_one, each_set, each_weaker}
 use Rattle.placing.proofs.KeepCells.{all_enter, all_set, climb, climb_enter, climb_in, climb_inner, climb_leave, climb_set, root_more, root_set}
 use Rattle.placing.proofs.KeepAtoms.{each_port, fits_new, fits_none, fits_port, last_fits, ports_port, register_port}

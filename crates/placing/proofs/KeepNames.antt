@@ -1,6 +1,6 @@
 -- What the names of a text do to the ends of a plan's links.
-use Rattle.std.proofs.Common.{◌≡◌, ℕ, zero, suc, ◌+◌, ◌-◌, ◌<◌, ◌≤◌, Bool, true, false, cond, not, ◌&&◌, eqb, ltb, List, [], ◌∷◌, ◌++◌, map, length, get_or, drop, is_some, Some, None, filter, Option, sym, refl, ap, ◌∙◌, subst, ap₂, arith}
-use Rattle.std.proofs.lemmas.Bool.{and_parts, cond-true, cond-false, eq-eqb, ne_eqb, eqb-true}
+use Rattle.std.proofs.Common.{◌≡◌, ℕ, suc, ◌+◌, ◌<◌, ◌≤◌, Bool, true, false, cond, eqb, List, [], ◌∷◌, map, length, get_or, drop, is_some, Some, None, filter, Option, sym, refl, ap, ◌∙◌, subst, ap₂, arith}
+use Rattle.std.proofs.lemmas.Bool.{and_parts, cond-true, eq-eqb, ne_eqb, eqb-true}
 use Rattle.std.proofs.lemmas.Bool.Decides.{nat_tests}
 use Rattle.text.specs.declared.packed.Name.{Name}
 use Rattle.grammar.specs.declared.stand.Standing.{Standing}
@@ -8,7 +8,7 @@ use Rattle.grammar.specs.Names.{position}
 use Rattle.grammar.specs.State.{times}
 use Rattle.plan.specs.declared.tables.FreeLink.{FreeLink}
 use Rattle.plan.specs.Sound.{count, distinct}
-use Rattle.placing.specs.Links.{closed, linked, links_from, open_link, opened, opens, stays}
+use Rattle.placing.specs.Links.{closed, linked, links_from, open_link, opened, stays}
 use Rattle.placing.proofs.KeepTally.{count_without, tally, tally_split, without}
 
 abbrev pub packed_names : List Standing → List ℕ

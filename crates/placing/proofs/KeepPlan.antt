@@ -1,5 +1,5 @@
 -- A sound plan is sound in what its tables stand for, and the other way.
-use Rattle.std.proofs.Common.{◌≡◌, ℕ, ◌≤◌, min, true, ◌&&◌, leb, List, [], ◌∷◌, map, length, take, sym, refl, ap, ◌∙◌, arith, length-take}
+use Rattle.std.proofs.Common.{◌≡◌, true, ◌&&◌, leb, List, [], ◌∷◌, map, length, take, refl, arith, length-take}
 use Rattle.std.proofs.lemmas.Bool.{and_from, and_parts, le-leb, leb-true}
 use Rattle.label.specs.Kind.{Kind}
 use Rattle.plan.specs.declared.tables.Atom.{Atom}

@@ -1,29 +1,26 @@
 -- A text hung on a sound plan leaves a sound plan.
-use Rattle.std.proofs.Common.{◌≡◌, ℕ, zero, suc, ◌+◌, ◌-◌, ◌/◌, ◌^◌, ◌<◌, ◌≤◌, Bool, true, false, cond, not, ◌&&◌, ◌||◌, eqb, ltb, leb, List, [], ◌∷◌, ◌++◌, map, length, get_or, None, filter, sym, refl, ap, ◌∙◌, subst, ap₂, ⊎_elim, arith, length-append}
+use Rattle.std.proofs.Common.{◌≡◌, ℕ, ◌+◌, ◌<◌, ◌≤◌, Bool, true, false, ◌&&◌, eqb, ltb, leb, List, [], ◌∷◌, ◌++◌, map, length, get_or, filter, sym, refl, ap, ◌∙◌, subst, ap₂, ⊎_elim, arith, length-append}
 use Rattle.std.proofs.lemmas.List.{length-map, map-append}
-use Rattle.std.proofs.lemmas.Bool.{and_from, and_parts, cases_lt, eq-eqb, eqb-true, lt-ltb, ltb-true}
-use Rattle.std.proofs.lemmas.Bool.Decides.{nat_tests}
+use Rattle.std.proofs.lemmas.Bool.{and_parts, cases_lt, eq-eqb, eqb-true, lt-ltb, ltb-true}
 use Rattle.label.specs.Kind.{Kind}
 use Rattle.text.specs.declared.packed.Name.{Name}
-use Rattle.text.specs.Packed.{pack, spelling}
-use Rattle.text.specs.Shapes.{is_name}
 use Rattle.grammar.specs.declared.stand.Standing.{Standing}
 use Rattle.grammar.specs.Names.{position}
 use Rattle.grammar.specs.Reading.{Events}
 use Rattle.plan.specs.declared.tables.FreeLink.{FreeLink}
 use Rattle.plan.specs.Model.{Model, Node}
-use Rattle.plan.specs.Sound.{atom_limit, count, distinct, each, ends, free_limit, link_limit, open_name, port_limit, port_links, rows}
+use Rattle.plan.specs.Sound.{count, distinct, each, ends, open_name, port_links, rows}
 use Rattle.plan.proofs.Each.{each_map}
 use Rattle.placing.specs.Keeps.{AddingKeeps, KeepsSound, OfText, SoundModel, connectors_of, fit_standing}
-use Rattle.placing.specs.Links.{free_after, link_at, links_from, opened, opens, stays, unused}
-use Rattle.placing.specs.Orderly.{name_standings, proper_name}
+use Rattle.placing.specs.Links.{free_after, link_at, opened, stays, unused}
+use Rattle.placing.specs.Orderly.{name_standings}
 use Rattle.placing.specs.Placing.{Placing, become, begun, hung, links_in, place_all, refreed, relinked}
 use Rattle.placing.proofs.KeepEach.{count_append, distinct_once, each_join, each_kept, each_standing, once_distinct, standing_each}
 use Rattle.placing.proofs.KeepAbsorb.{Twice, absorbs, absorbs_below, ends_absorbed, flat, joined_all, length_rows, map_rows, rows_below}
 use Rattle.placing.proofs.KeepAtoms.{few_links, register_relinked}
 use Rattle.placing.proofs.KeepGoing.{Going, goes_all, goes_from}
-use Rattle.placing.proofs.KeepNames.{closing, free_closed, free_links, free_names, key, length_links, names_kept, news, news_taken, opened_least, opened_new, packed_names, weigh, weighed, weighs}
-use Rattle.placing.proofs.KeepStands.{all_stand, became_all, few_pairs, paired, ported, ports_all, stood, stood_names}
+use Rattle.placing.proofs.KeepNames.{free_closed, free_links, free_names, key, length_links, names_kept, news, news_taken, opened_least, opened_new, packed_names, weighed, weighs}
+use Rattle.placing.proofs.KeepStands.{all_stand, became_all, few_pairs, paired, ports_all, stood, stood_names}
 use Rattle.placing.proofs.KeepTally.{kept_least, kept_passes, many_left, rows_once, tally, tally_append, tally_count, tally_length}
 
 -- ** the unused numbers

@@ -1,17 +1,15 @@
 -- The standings of names in events: at ports, and in connectors.
-use Rattle.std.proofs.Common.{◌≡◌, ℕ, zero, suc, ◌+◌, ◌-◌, ◌<◌, ◌≤◌, Bool, true, false, cond, not, ◌&&◌, eqb, ltb, leb, List, [], ◌∷◌, ◌++◌, map, length, None, sym, refl, ap, ◌∙◌, subst, ap₂, arith}
+use Rattle.std.proofs.Common.{◌≡◌, ℕ, suc, ◌+◌, ◌-◌, ◌≤◌, Bool, true, false, cond, not, ◌&&◌, eqb, ltb, leb, List, [], ◌∷◌, map, length, None, refl, ap, ◌∙◌, arith}
 use Rattle.std.proofs.lemmas.Bool.{and_parts, both_ways, ltb-true}
 use Rattle.label.specs.Kind.{Kind}
 use Rattle.text.specs.declared.packed.Name.{Name}
-use Rattle.grammar.specs.declared.event.Event.{Event}
 use Rattle.grammar.specs.declared.event.Event.TheVariants as events
 use Rattle.grammar.specs.Laws.{fault_of}
 use Rattle.grammar.specs.Reading.{Events, event, end, fault}
-use Rattle.plan.specs.Model.{Model, Node}
 use Rattle.plan.specs.Sound.{port_links}
-use Rattle.placing.specs.Keeps.{AddingKeeps, connectors_of, more_connectors}
-use Rattle.placing.specs.Orderly.{depth_after, event_names, halfway, may_come, name_standings, orderly, ports_after, proper_name}
-use Rattle.placing.specs.Placing.{Placing, become, joined, place_all, place_one, with_port}
+use Rattle.placing.specs.Keeps.{AddingKeeps, connectors_of}
+use Rattle.placing.specs.Orderly.{may_come, name_standings, orderly, proper_name}
+use Rattle.placing.specs.Placing.{Placing, place_all, place_one}
 use Rattle.placing.proofs.KeepAbsorb.{flat, joined_all}
 use Rattle.placing.proofs.KeepAtoms.{links_new, links_port}
 use Rattle.placing.proofs.KeepGoing.{Going, goes}

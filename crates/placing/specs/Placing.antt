@@ -1,5 +1,5 @@
 -- What hanging a text makes of a plan.
-use Rattle.std.specs.Prelude.{ℕ, cond, List, [], ◌∷◌, ◌++◌, map, length, get_or, set, Some, None, Option, ◌==◌, slice_index_or, slice_set}
+use Rattle.std.specs.Prelude.{ℕ, cond, List, [], ◌∷◌, ◌++◌, map, length, get_or, Some, None, Option, ◌==◌, slice_index_or, slice_set}
 use Rattle.label.specs.Kind.{Kind}
 use Rattle.text.specs.declared.packed.Name.{Name}
 use Rattle.grammar.specs.declared.event.Event.{Event}

@@ -1,5 +1,5 @@
 -- A plan with the root alone is sound.
-use Rattle.std.proofs.Common.{◌≡◌, ◌<◌, min, true, eqb, ltb, leb, List, [], map, length, take, set, None, ap, arith}
+use Rattle.std.proofs.Common.{◌≡◌, ◌<◌, min, eqb, ltb, leb, List, [], map, length, take, set, None, ap, arith}
 use Rattle.std.proofs.lemmas.Bool.{and_from, le-leb}
 use Rattle.label.specs.Kind.{Kind}
 use Rattle.plan.specs.declared.tables.Cell.{Cell}

@@ -1,5 +1,5 @@
 -- A kind of label that has one label and takes one token alone, the number 0.
-use Rattle.std.specs.Prelude.{◌≡◌, ℕ, true, false, Bool, List, [], ◌∷◌, Some, None, Option, cond, ◌==◌}
+use Rattle.std.specs.Prelude.{ℕ, false, Bool, List, [], ◌∷◌, Some, None, Option, cond, ◌==◌}
 use Rattle.label.specs.declared.form.Form.{Form}
 use Rattle.label.specs.declared.form.Form.TheVariants.{Word, Number}
 use Rattle.label.specs.Kind.{Kind}

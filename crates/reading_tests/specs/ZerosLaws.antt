@@ -1,6 +1,6 @@
 -- The laws of the kind that takes one token alone.
-use Rattle.std.specs.Prelude.{◌≡◌, ℕ, true, false, List, [], ◌∷◌, Some, None, refl}
-use Rattle.std.proofs.Common.{sym, ap, ◌∙◌, arith}
+use Rattle.std.specs.Prelude.{◌≡◌, ℕ, true, List, [], ◌∷◌, Some, refl}
+use Rattle.std.proofs.Common.{sym, ap, arith}
 use Rattle.std.proofs.lemmas.Bool.Decides.{nat_tests}
 use Rattle.text.specs.Classes.{class_of}
 use Rattle.text.specs.Shapes.{all}
@@ -8,7 +8,7 @@ use Rattle.label.specs.declared.form.Form.{Form}
 use Rattle.label.specs.declared.form.Form.TheVariants.{Word, Number}
 use Rattle.label.specs.Kind.{Lawful, Shown, Sound}
 use Rattle.reading_tests.specs.declared.zeros.Zeros.{Zeros}
-use Rattle.reading_tests.specs.Zeros.{zero, is_zero, zeros_kind, zeros_raw, zeros_read}
+use Rattle.reading_tests.specs.Zeros.{zeros_kind, zeros_raw, zeros_read}
 
 abbrev the_zeros : ℕ → Zeros
 the_zeros n = record { held = n }

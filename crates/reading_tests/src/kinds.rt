@@ -12,6 +12,7 @@ use std::test::Fail;
 #[test]
 fn no_token(rt: HostRuntime) -> Result<(), Fail> {
     holds::<Zeros>(&rt, b"{X=Y},Y=X", 0, 1, 2, 0)?;
+    holds::<Zeros>(&rt, b"0", 1, 0, 0, 0)?;
     refused::<Zeros>(&rt, b"a", 4, 0)?;
     refused::<Zeros>(&rt, b"{7}", 4, 1)
 }

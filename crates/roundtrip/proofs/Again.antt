@@ -1,5 +1,5 @@
 -- A shown plan that is hung again shows the same.
-use Rattle.std.proofs.Common.{◌≡◌, ℕ, ◌+◌, ◌<◌, ◌≤◌, Bool, true, false, not, eqb, List, [], ◌∷◌, ◌++◌, map, length, get_or, is_some, Some, None, filter, Option, sym, refl, ap, ◌∙◌, subst, ap₂, ⊎_elim, append-nil, arith, length-append}
+use Rattle.std.proofs.Common.{◌≡◌, ℕ, ◌+◌, ◌<◌, ◌≤◌, Bool, true, not, eqb, List, [], ◌∷◌, ◌++◌, map, length, get_or, is_some, Some, None, filter, Option, sym, refl, ap, ◌∙◌, subst, ap₂, ⊎_elim, append-nil, arith, length-append}
 use lib.ListN.{length-map}
 use Rattle.std.specs.List.{AllByRecursion as All}
 use Rattle.std.proofs.lemmas.Bool.{and_parts, cases_lt, cond-true, eq-eqb, eqb-true, false≢true}
@@ -28,7 +28,6 @@ use Rattle.showing.specs.Text.{text_of}
 use Rattle.showing.specs.Reading.{name_standings}
 use Rattle.showing.specs.declared.last.Last.TheVariants as last_word
 use Rattle.showing.proofs.Totals.{all_kept, all_weaker, all_of, count_append, count_kept}
-use Rattle.showing.proofs.Visits.{parent}
 use Rattle.showing.proofs.Meeting.{Facts, facts, met_links, met_length}
 use Rattle.showing.proofs.Freed.{names, open_found, standings_append, tied, tied_never}
 use Rattle.showing.proofs.Named.{firsts_has, firsts_length, place_same}

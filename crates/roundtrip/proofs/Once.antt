@@ -1,12 +1,12 @@
 -- How often the names of a sound plan stand in its events: an open name once, any other that stands twice.
-use Rattle.std.proofs.Common.{◌≡◌, ℕ, suc, ◌+◌, ◌/◌, ◌^◌, ◌<◌, ◌≤◌, true, cond, eqb, ◌⊎◌, List, [], ◌∷◌, map, Some, None, Option, sym, refl, ap, ◌∙◌, subst, ⊎_elim, arith}
+use Rattle.std.proofs.Common.{◌≡◌, ℕ, suc, ◌+◌, ◌/◌, ◌^◌, ◌<◌, ◌≤◌, true, cond, eqb, List, [], ◌∷◌, map, Some, None, Option, sym, refl, ap, ◌∙◌, subst, ⊎_elim, arith}
 use Rattle.std.proofs.lemmas.Bool.Decides.{nat_tests}
 use Rattle.std.proofs.lemmas.Bool.{cases_eq, cases_lt, cond-true, cond-false, eq-eqb, ne_eqb}
 use Rattle.label.specs.Kind.{Kind}
 use Rattle.text.specs.declared.packed.Name.{Name}
 use Rattle.plan.specs.declared.tables.FreeLink.{FreeLink}
 use Rattle.plan.specs.Model.{Model}
-use Rattle.plan.specs.Sound.{count, distinct, ends, port_links}
+use Rattle.plan.specs.Sound.{count, distinct, port_links}
 use Rattle.showing.specs.Shown.{open_name, place, numbered, shown_name, ties, plan_events}
 use Rattle.showing.specs.Reading.{name_standings}
 use Rattle.showing.proofs.Totals.{count_append}

@@ -30,7 +30,7 @@ use Rattle.placing.proofs.NamesOf.{names_right}
 use Rattle.placing.proofs.Ordering.{orderly_text}
 use Rattle.placing.proofs.Staying.{all_labels}
 use Rattle.showing.specs.Shown.{plan_events, shown}
-use Rattle.showing.specs.Reading.{stream, name_standings}
+use Rattle.showing.specs.Reading.{stream}
 use Rattle.showing.proofs.Freed.{names, count_here, count_later}
 use Rattle.showing.proofs.Meeting.{Facts, facts}
 use Rattle.showing.proofs.Readable.{shown_readable}

@@ -1,5 +1,5 @@
 -- Links renamed: the tables are as long after a text.
-use Rattle.std.proofs.Common.{◌≡◌, ℕ, zero, suc, ◌+◌, ◌≤◌, min, Bool, true, false, cond, ◌&&◌, leb, List, [], ◌∷◌, ◌++◌, map, length, Some, filter, sym, refl, ap, ◌∙◌, subst, ap₂, arith, length-append}
+use Rattle.std.proofs.Common.{◌≡◌, ℕ, suc, min, true, false, cond, ◌&&◌, leb, List, [], ◌∷◌, ◌++◌, map, length, Some, filter, sym, refl, ap, ◌∙◌, ap₂, arith, length-append}
 use Rattle.std.proofs.lemmas.List.{length-map}
 use Rattle.label.specs.Kind.{Kind}
 use Rattle.text.specs.declared.packed.Name.{Name}
@@ -9,7 +9,7 @@ use Rattle.grammar.specs.declared.stand.Standing.{Standing}
 use Rattle.grammar.specs.Reading.{Events, event, end, fault}
 use Rattle.plan.specs.declared.tables.FreeLink.{FreeLink}
 use Rattle.plan.specs.declared.tables.Plan.{Plan}
-use Rattle.plan.specs.Model.{Model, Node}
+use Rattle.plan.specs.Model.{Model}
 use Rattle.register.specs.Rows.{added}
 use Rattle.placing.specs.Answer.{takes}
 use Rattle.placing.specs.Links.{free_after, link_at, opened, opens, stays, unused}

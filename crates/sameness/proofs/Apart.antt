@@ -1,10 +1,10 @@
 -- A renaming that is one to one on what stands agrees there with one that is one to one everywhere.
-use Rattle.std.proofs.Common.{◌≡◌, ℕ, zero, suc, ◌+◌, ◌<◌, ◌≤◌, Bool, true, false, cond, eqb, ltb, List, [], ◌∷◌, map, sym, refl, ap, ◌∙◌, subst, ap₂, ⊎_elim, arith}
+use Rattle.std.proofs.Common.{◌≡◌, ℕ, suc, ◌+◌, ◌<◌, ◌≤◌, cond, eqb, ltb, List, [], ◌∷◌, map, sym, refl, ap, ◌∙◌, ap₂, ⊎_elim, arith}
 use Rattle.std.proofs.lemmas.Bool.{cases_eq, cases_lt, cond-false, cond-true, eq-eqb, le-ltb, lt-ltb, ne_eqb}
 use Rattle.std.proofs.lemmas.Bool.Decides.{nat_tests}
 use Rattle.plan.specs.Model.{Model}
 use Rattle.plan.specs.Sound.{count, ends}
-use Rattle.sameness.specs.Renaming.{OneToOne, Renamed, Stands, renamed_by}
+use Rattle.sameness.specs.Renaming.{Renamed, renamed_by}
 use Rattle.sameness.proofs.Renaming.{renamed_agree}
 
 -- different numbers get different numbers

@@ -1,20 +1,19 @@
 -- The unused numbers of a plan, and of one with its links renamed.
-use Rattle.std.proofs.Common.{◌≡◌, ℕ, zero, suc, ◌+◌, ◌-◌, ◌<◌, ◌≤◌, Bool, true, false, cond, eqb, ltb, ◌⊎◌, List, [], ◌∷◌, ◌++◌, map, length, filter, sym, refl, ap, ◌∙◌, subst, ap₂, inl, inr, ⊎_elim, arith}
+use Rattle.std.proofs.Common.{◌≡◌, ℕ, zero, suc, ◌+◌, ◌<◌, ◌≤◌, Bool, true, cond, eqb, ltb, ◌⊎◌, List, [], ◌∷◌, map, length, filter, sym, refl, ap, ◌∙◌, subst, ap₂, inl, inr, ⊎_elim, arith}
 use Rattle.std.proofs.lemmas.List.{length-map}
 use Rattle.std.proofs.lemmas.Bool.{cases_eq, cases_lt, cond-false, cond-true, eq-eqb, eqb-true, le-ltb, lt-ltb, ltb-true, ne_eqb}
 use Rattle.std.proofs.lemmas.Bool.Decides.{nat_tests}
 use Rattle.label.specs.Kind.{Kind}
 use Rattle.plan.specs.Model.{Model}
-use Rattle.plan.specs.Sound.{count, each, ends, rows}
+use Rattle.plan.specs.Sound.{count, ends, rows}
 use Rattle.placing.specs.Keeps.{SoundModel}
 use Rattle.placing.specs.Links.{unused}
 use Rattle.placing.proofs.KeepAbsorb.{Twice, length_rows}
 use Rattle.placing.proofs.KeepEach.{each_standing}
 use Rattle.placing.proofs.KeepSound.{unused_below, unused_new, unused_once}
 use Rattle.placing.proofs.KeepTally.{rows_once}
-use Rattle.sameness.specs.Renaming.{OneToOne, Renamed, Stands, renamed_by}
+use Rattle.sameness.specs.Renaming.{OneToOne, Stands, renamed_by}
 use Rattle.sameness.proofs.Renaming.{back, count_first, count_later, ends_by, map_agree, renamed_agree, stands_by, way_back}
-use Rattle.sameness.proofs.Apart.{Apart}
 use Rattle.sameness.proofs.Hanging.{Within}
 
 -- ** how many there are

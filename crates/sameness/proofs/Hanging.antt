@@ -1,5 +1,5 @@
 -- A text hung on a plan with its links renamed.
-use Rattle.std.proofs.Common.{◌≡◌, ℕ, zero, suc, ◌+◌, ◌-◌, ◌<◌, ◌≤◌, Bool, true, false, cond, not, ◌&&◌, eqb, ltb, leb, List, [], ◌∷◌, ◌++◌, map, length, get_or, drop, set, is_some, Some, None, filter, Option, sym, refl, ap, ◌∙◌, subst, ap₂, ⊎_elim, arith}
+use Rattle.std.proofs.Common.{◌≡◌, ℕ, ◌+◌, ◌-◌, ◌<◌, ◌≤◌, true, false, cond, not, ◌&&◌, eqb, List, [], ◌∷◌, ◌++◌, map, length, is_some, Some, None, filter, Option, sym, refl, ap, ◌∙◌, subst, ap₂, ⊎_elim, arith}
 use Rattle.std.proofs.lemmas.List.{get_or-map, get_or_past, length-map, map-append}
 use Rattle.std.proofs.lemmas.Bool.{and_parts, both_ways, cases_lt}
 use Rattle.std.proofs.lemmas.Bool.Decides.{nat_tests}
@@ -11,21 +11,19 @@ use Rattle.grammar.specs.declared.stand.Standing.{Standing}
 use Rattle.grammar.specs.Names.{position}
 use Rattle.grammar.specs.Reading.{Events, event, end, fault}
 use Rattle.grammar.specs.State.{times}
-use Rattle.plan.specs.declared.tables.Cell.{Cell}
 use Rattle.plan.specs.declared.tables.FreeLink.{FreeLink}
-use Rattle.plan.specs.declared.tables.Census.{Census}
 use Rattle.plan.specs.Model.{Model, Node}
-use Rattle.plan.specs.Sound.{count, rows}
+use Rattle.plan.specs.Sound.{count}
 use Rattle.placing.specs.Keeps.{OfText}
-use Rattle.placing.specs.Links.{closed, free_after, link_at, linked, links_from, open_link, opened, opens, stays, unused}
-use Rattle.placing.specs.Orderly.{depth_after, halfway, may_come, name_standings, orderly, ports_after, proper_name}
-use Rattle.placing.specs.Placing.{Placing, absorbed, become, begun, hung, joined, parent_of, place_all, place_one, put, refreed, relinked, with_port, with_set}
+use Rattle.placing.specs.Links.{closed, free_after, link_at, linked, links_from, open_link, opened, opens, stays}
+use Rattle.placing.specs.Orderly.{may_come, name_standings, orderly}
+use Rattle.placing.specs.Placing.{Placing, absorbed, become, begun, joined, parent_of, place_all, place_one, put, refreed, relinked, with_port, with_set}
 use Rattle.register.specs.Rows.{added}
 use Rattle.placing.proofs.KeepAbsorb.{become_rows, length_rows}
 use Rattle.placing.proofs.KeepNames.{length_links, newer, news}
 use Rattle.sameness.specs.Renaming.{free_by, node_by, renamed_by}
 use Rattle.sameness.specs.Reordering.{over}
-use Rattle.sameness.proofs.Renaming.{count_first, count_later, map_twice}
+use Rattle.sameness.proofs.Renaming.{count_first, count_later}
 use Rattle.sameness.proofs.Lists.{kept_map}
 use Rattle.sameness.proofs.Apart.{Apart, eqb_by}
 

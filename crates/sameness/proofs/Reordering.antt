@@ -1,14 +1,14 @@
 -- Links renamed and rows in another order: an equivalence.
-use Rattle.std.proofs.Common.{◌≡◌, ℕ, zero, suc, ◌+◌, ◌<◌, ◌≤◌, Bool, true, false, cond, eqb, ◌⊎◌, List, [], ◌∷◌, ◌++◌, map, Some, None, Option, sym, refl, ap, ◌∙◌, subst, ap₂, inl, inr, ⊎_elim, arith}
+use Rattle.std.proofs.Common.{◌≡◌, ℕ, zero, suc, ◌<◌, ◌≤◌, ◌⊎◌, List, [], ◌∷◌, map, Some, None, Option, sym, refl, ap, ◌∙◌, subst, ap₂, inl, inr, ⊎_elim, arith}
 use Rattle.std.specs.List.{slice_get}
-use Rattle.std.proofs.lemmas.Bool.{cases_eq, cases_lt, eq-eqb, eqb-true, ne_eqb}
+use Rattle.std.proofs.lemmas.Bool.{cases_eq, cases_lt}
 use Rattle.std.proofs.lemmas.Bool.Decides.{nat_tests}
 use Rattle.plan.specs.declared.tables.Cell.{Cell}
 use Rattle.plan.specs.declared.tables.FreeLink.{FreeLink}
 use Rattle.plan.specs.Model.{Model, Node}
 use Rattle.plan.specs.Sound.{count, ends, port_links}
 use Rattle.placing.proofs.KeepEach.{count_append}
-use Rattle.sameness.specs.Renaming.{OneToOne, Renamed, Stands, free_by, node_by, renamed_by}
+use Rattle.sameness.specs.Renaming.{OneToOne, Stands, free_by, node_by, renamed_by}
 use Rattle.sameness.specs.Reordering.{Renumbering, Reordered, ReorderedEquivalence, atom_by, cell_by, over}
 use Rattle.sameness.proofs.Renaming.{back, back_stands, count_first, count_later, map_agree, map_same, map_twice, renamed_same, stands_by, way_back}
 

@@ -1,9 +1,8 @@
 -- Links renamed: a plan shows the same.
-use Rattle.std.proofs.Common.{◌≡◌, ℕ, zero, suc, ◌+◌, Bool, true, false, cond, not, eqb, leb, List, [], ◌∷◌, ◌++◌, map, length, get_or, is_some, Some, None, Ok, Err, filter, Option, sym, refl, ap, ◌∙◌, subst, ap₂}
+use Rattle.std.proofs.Common.{◌≡◌, ℕ, zero, suc, true, false, cond, not, eqb, leb, List, [], ◌∷◌, ◌++◌, map, length, get_or, is_some, Some, Ok, Err, filter, sym, refl, ap, ◌∙◌, ap₂}
 use Rattle.std.proofs.lemmas.List.{length-map, map-append}
 use Rattle.fault.specs.declared.Refusal.TheVariants.{UnsoundPlan, ShortBuffer}
 use Rattle.label.specs.Kind.{Kind}
-use Rattle.text.specs.declared.packed.Name.{Name}
 use Rattle.grammar.specs.declared.event.Event.{Event}
 use Rattle.grammar.specs.declared.event.Event.TheVariants as events
 use Rattle.plan.specs.declared.tables.FreeLink.{FreeLink}
@@ -12,7 +11,7 @@ use Rattle.plan.specs.Sound.{no_cell}
 use Rattle.showing.specs.declared.last.Last.TheVariants as last
 use Rattle.showing.specs.Walk.{Step, atom, enter, leave, atoms_in, cells_in, flat, walk, whole_walk}
 use Rattle.showing.specs.Text.{text_of}
-use Rattle.showing.specs.Shown.{firsts, joins, number_name, numbered, open_name, or_number, place, plan_events, shown, shown_name, step_events, step_links, tie, ties}
+use Rattle.showing.specs.Shown.{firsts, joins, numbered, open_name, or_number, place, plan_events, shown, shown_name, step_events, step_links, tie, ties}
 use Rattle.sameness.specs.Renaming.{Renamed, free_by, node_by, renamed_by}
 use Rattle.sameness.specs.Keeping.{RenamingShown}
 use Rattle.sameness.proofs.Renaming.{map_twice}

@@ -1,5 +1,5 @@
 -- Links renamed: a sound plan stays sound.
-use Rattle.std.proofs.Common.{◌≡◌, ℕ, suc, Bool, true, cond, ◌&&◌, eqb, ltb, leb, List, [], ◌∷◌, map, length, sym, refl, ap, ◌∙◌, subst, ap₂}
+use Rattle.std.proofs.Common.{◌≡◌, ℕ, suc, true, cond, ◌&&◌, eqb, ltb, leb, List, [], ◌∷◌, map, length, sym, refl, ap, ◌∙◌, subst, ap₂}
 use Rattle.std.proofs.lemmas.List.{length-map}
 use Rattle.label.specs.Kind.{Kind}
 use Rattle.plan.specs.declared.tables.Census.{Census}
@@ -8,7 +8,7 @@ use Rattle.plan.specs.Sound.{alike, ascending, atoms_of, count, distinct, each, 
 use Rattle.plan.specs.Tests.{register_test}
 use Rattle.plan.proofs.Each.{each_alike, each_map}
 use Rattle.placing.specs.Keeps.{SoundModel}
-use Rattle.sameness.specs.Renaming.{Renamed, free_by, node_by, renamed_by}
+use Rattle.sameness.specs.Renaming.{free_by, node_by, renamed_by}
 use Rattle.sameness.specs.Keeping.{RenamingSound}
 use Rattle.sameness.proofs.Renaming.{ends_by, map_twice}
 use Rattle.sameness.proofs.Apart.{Apart, all_apart, count_by}

@@ -1,5 +1,5 @@
 -- Links renamed: plans stay the same but for links when a text is hung on them.
-use Rattle.std.proofs.Common.{◌≡◌, ℕ, suc, ◌+◌, ◌/◌, ◌^◌, ◌≤◌, Bool, true, false, cond, not, ◌&&◌, ◌||◌, eqb, List, [], ◌∷◌, map, length, None, Ok, Err, sym, refl, ap, ◌∙◌, subst, ap₂, arith}
+use Rattle.std.proofs.Common.{◌≡◌, ℕ, ◌/◌, ◌^◌, ◌≤◌, cond, not, ◌||◌, eqb, List, length, None, Ok, Err, sym, refl, ◌∙◌, subst, ap₂, arith}
 use Rattle.std.proofs.lemmas.Bool.{and_from}
 use Rattle.fault.specs.declared.Refusal.TheVariants.{UnsoundPlan, FullTables}
 use Rattle.label.specs.Kind.{Kind, Lawful}
@@ -8,13 +8,11 @@ use Rattle.grammar.specs.declared.stand.Standing.{Standing}
 use Rattle.grammar.specs.Laws.{fault_of}
 use Rattle.grammar.specs.Reading.{Events, event, end, fault, hang_events}
 use Rattle.grammar.specs.Sheets.{text_names}
-use Rattle.plan.specs.declared.tables.Plan.{Plan}
 use Rattle.plan.specs.Model.{Model, model_of}
 use Rattle.plan.specs.Sound.{each}
-use Rattle.plan.specs.Tests.{sound_test}
 use Rattle.plan.proofs.Each.{each_both}
 use Rattle.register.proofs.Adding.{adding}
-use Rattle.placing.specs.Answer.{hung_text, takes, unless_fault}
+use Rattle.placing.specs.Answer.{hung_text, unless_fault}
 use Rattle.placing.specs.Counts.{connectors_in, summed}
 use Rattle.placing.specs.Keeps.{AddingKeeps, OfText, SoundModel, connectors_of}
 use Rattle.placing.specs.Links.{unused}
@@ -24,7 +22,7 @@ use Rattle.placing.proofs.Counting.{events_right}
 use Rattle.placing.proofs.KeepSound.{numbers_enough}
 use Rattle.placing.proofs.NamesOf.{names_right}
 use Rattle.sameness.specs.Renaming.{OneToOne, Renamed, renamed_by}
-use Rattle.sameness.specs.Keeping.{RenamingHung, SameRoom}
+use Rattle.sameness.specs.Keeping.{RenamingHung}
 use Rattle.sameness.proofs.Answering.{AsLong, as_long, takes_same}
 use Rattle.sameness.proofs.Fresh.{along, same_along, unused_along, within}
 use Rattle.sameness.proofs.Hanging.{hung_by, hung_with}

@@ -1,5 +1,5 @@
 -- Plans that are the same but for the numbers of their links.
-use Rattle.std.specs.Prelude.{◌≡◌, ℕ, ◌<◌, List, map}
+use Rattle.std.specs.Prelude.{◌≡◌, ℕ, ◌<◌, map}
 use Rattle.plan.specs.declared.tables.FreeLink.{FreeLink}
 use Rattle.plan.specs.Model.{Model, Node}
 use Rattle.plan.specs.Sound.{count, ends}

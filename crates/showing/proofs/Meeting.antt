@@ -7,7 +7,7 @@ use Rattle.label.specs.Kind.{Kind}
 use Rattle.plan.specs.declared.tables.Cell.{Cell}
 use Rattle.plan.specs.declared.tables.Plan.{Plan}
 use Rattle.plan.specs.Model.{Model, Node, node_of, model_of}
-use Rattle.plan.specs.Sound.{Sound, count, distinct, each, leads, is_root, parentless, port_links, ends, open_name}
+use Rattle.plan.specs.Sound.{Sound, count, distinct, leads, is_root, parentless, port_links, ends, open_name}
 use Rattle.plan.proofs.Wholeness.{whole}
 use Rattle.showing.specs.Walk.{Step, atom, enter, leave, flat, atoms_in, whole_walk}
 use Rattle.showing.specs.Shown.{step_links}

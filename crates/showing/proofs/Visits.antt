@@ -5,7 +5,7 @@ use Rattle.std.proofs.lemmas.Bool.Decides.{nat_tests}
 use Rattle.std.proofs.lemmas.Bool.{cond-true, cases_Bool, cases_lt, eqb-true, false≢true, or_cases, le-leb, lt-ltb, and_from}
 use Rattle.plan.specs.declared.tables.Cell.{Cell}
 use Rattle.plan.specs.Model.{Model, Node}
-use Rattle.plan.specs.Sound.{count, rows, each, leads, onward, no_cell}
+use Rattle.plan.specs.Sound.{count, rows, leads, onward, no_cell}
 use Rattle.plan.proofs.Leads.{past_cells}
 use Rattle.showing.specs.Walk.{Step, atom, enter, leave, flat, has_parent, atoms_in, cells_in, walk}
 use Rattle.showing.proofs.Totals.{total, total_append, total_plus, total_alike, total_none, total_flat, total_map, total_swap, count_total, count_kept, count_rows, total_all, total_once, length_total, length_rows, all_flat, all_kept, all_weaker, all_rows}

@@ -1,5 +1,5 @@
 -- What show writes of a plan.
-use Rattle.std.specs.Prelude.{ℕ, suc, Bool, true, false, cond, not, ◌||◌, List, [], ◌∷◌, ◌++◌, map, length, drop, is_some, Some, None, Ok, Err, decimal, filter, Option, Result, ◌==◌, nat_le}
+use Rattle.std.specs.Prelude.{ℕ, suc, cond, not, List, [], ◌∷◌, ◌++◌, map, length, drop, is_some, Some, None, Ok, Err, decimal, filter, Option, Result, ◌==◌, nat_le}
 use Rattle.fault.specs.declared.Refusal.TheVariants.{UnsoundPlan, ShortBuffer}
 use Rattle.fault.specs.declared.Fault.{Fault}
 use Rattle.label.specs.Kind.{Kind}

@@ -1,5 +1,5 @@
 -- The order in which a plan is shown.
-use Rattle.std.specs.Prelude.{ℕ, zero, suc, ◌+◌, Bool, true, false, cond, List, [], ◌∷◌, ◌++◌, map, length, Some, None, filter, Option, ◌==◌, nat_eq, slice_index_or}
+use Rattle.std.specs.Prelude.{ℕ, zero, suc, ◌+◌, Bool, false, List, [], ◌∷◌, ◌++◌, map, length, Some, None, filter, Option, ◌==◌, nat_eq, slice_index_or}
 use Rattle.plan.specs.declared.tables.Cell.{Cell}
 use Rattle.plan.specs.Model.{Model, Node}
 use Rattle.plan.specs.Sound.{depth_limit, no_cell, rows}

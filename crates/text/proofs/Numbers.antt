@@ -1,8 +1,7 @@
 -- The value of digits, as far as a cap.
-use Rattle.std.proofs.Common.{◌≡◌, ℕ, ◌+◌, ◌-◌, ◌*◌, ◌<◌, ◌≤◌, min, Bool, true, false, List, [], ◌∷◌, length, get_or, sym, refl, ap, ◌∙◌, ⊎_elim, arith}
-use Rattle.std.proofs.lemmas.Bool.{cases_order}
+use Rattle.std.proofs.Common.{◌≡◌, ℕ, ◌+◌, ◌-◌, ◌*◌, ◌<◌, ◌≤◌, min, List, [], ◌∷◌, length, get_or, refl, ap, arith}
 use Rattle.text.specs.Numbers.{digits_value}
-use Rattle.text.proofs.Slices.{past, at_first, at_none}
+use Rattle.text.proofs.Slices.{past, at_first}
 
 pub value_ge : (n : ℕ) (cs : List ℕ) → n ≤ digits_value n cs
 unfolding digits_value

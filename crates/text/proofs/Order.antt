@@ -1,7 +1,7 @@
 -- Packing loses nothing, and numeric order of packed names is byte order.
-use Rattle.std.proofs.Common.{◌≡◌, ℕ, zero, suc, ◌+◌, ◌*◌, ◌<◌, ◌≤◌, Bool, true, false, cond, ◌&&◌, ◌||◌, eqb, ltb, List, [], ◌∷◌, length, sym, refl, ap, ◌∙◌, ⊎_elim, arith}
+use Rattle.std.proofs.Common.{◌≡◌, ℕ, zero, suc, ◌+◌, ◌*◌, ◌<◌, ◌≤◌, ltb, List, [], ◌∷◌, length, ⊎_elim, arith}
 use Rattle.std.proofs.lemmas.Bool.{lt-ltb, le-ltb, ne_eqb, eq-eqb, cases_order}
-use Rattle.text.specs.Packed.{padded, numeral, pack, before, Lossless, Ordered}
+use Rattle.text.specs.Packed.{padded, numeral, before, Lossless, Ordered}
 use Rattle.text.proofs.Packing.{Bytes, spelling_pack}
 use Rattle.text.proofs.Shapes.{named_bytes}
 

@@ -1,5 +1,5 @@
 -- Each token of a text has the bytes of its sort.
-use Rattle.std.proofs.Common.{◌≡◌, ℕ, zero, suc, ◌<◌, ◌≤◌, Bool, true, false, cond, ◌&&◌, eqb, ltb, leb, List, [], ◌∷◌, length, take, Ok, Err, sym, refl, ap, ◌∙◌, subst, arith}
+use Rattle.std.proofs.Common.{◌≡◌, ℕ, zero, suc, Bool, true, false, cond, ◌&&◌, eqb, ltb, leb, List, [], ◌∷◌, length, take, Ok, Err, refl, ap, ◌∙◌, arith}
 use Rattle.std.proofs.lemmas.Bool.Decides.{nat_tests}
 use Rattle.text.specs.declared.class.Class.{Class}
 use Rattle.text.specs.declared.class.Class.TheVariants as classes
@@ -8,8 +8,8 @@ use Rattle.text.specs.declared.token.Sort.TheVariants as sorts
 use Rattle.text.specs.declared.token.Mark.TheVariants.{Turn, Colon}
 use Rattle.fault.specs.declared.Refusal.TheVariants.{NoToken, LongName}
 use Rattle.text.specs.Classes.{class_of, blank, lower, upper, digit, tail, lower_class, upper_class, digit_class}
-use Rattle.text.specs.Shapes.{all, begins, is_word, is_name, is_number}
-use Rattle.text.specs.Tokens.{Stream, Front, token, end, fault, tokens, first, front, by_class, measured, negative, longest, tok, colon, single}
+use Rattle.text.specs.Shapes.{all, begins, is_number}
+use Rattle.text.specs.Tokens.{Stream, Front, tokens, first, front, by_class, measured, negative, longest, tok, colon, single}
 use Rattle.text.specs.Answer.{proper, Proper, TokensProper}
 
 -- the bytes of a run pass, and are as many as it says

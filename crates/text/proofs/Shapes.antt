@@ -1,12 +1,12 @@
 -- Which bytes are a word or a name, and what stands before a zero.
-use Rattle.std.proofs.Common.{◌≡◌, ℕ, zero, suc, ◌+◌, ◌-◌, ◌/◌, ◌%◌, ◌<◌, ◌≤◌, Bool, true, false, cond, ◌&&◌, ◌||◌, eqb, ltb, leb, List, [], ◌∷◌, length, get_or, drop, set, sym, refl, ap, ◌∙◌, arith, length-set}
+use Rattle.std.proofs.Common.{◌≡◌, ℕ, zero, suc, ◌/◌, ◌%◌, ◌<◌, ◌≤◌, Bool, true, ◌&&◌, eqb, ltb, leb, List, [], ◌∷◌, length, get_or, drop, set, sym, refl, ap, ◌∙◌, arith}
 use Rattle.std.proofs.lemmas.Bool.{cond-true, cond-false, eq-eqb, ne_eqb}
 use Rattle.std.proofs.lemmas.Bool.Decides.{nat_tests}
-use Rattle.text.specs.Classes.{class_of, lower, upper, tail}
-use Rattle.text.specs.Shapes.{all, begins, is_word, is_name, name_limit}
+use Rattle.text.specs.Classes.{class_of, lower, tail}
+use Rattle.text.specs.Shapes.{all, is_word}
 use Rattle.text.specs.Tokens.{longest}
 use Rattle.text.specs.Packed.{before_zero, digits, named}
-use Rattle.text.proofs.Slices.{past, at_first, at_none}
+use Rattle.text.proofs.Slices.{past, at_first}
 use Rattle.text.proofs.Packing.{Bytes}
 
 pub all_longest : (p : ℕ → Bool) (bs : List ℕ) → all p bs ≡ eqb (longest p bs) (length bs)

@@ -1,5 +1,5 @@
 -- What a slice pattern says of a list.
-use Rattle.std.proofs.Common.{◌≡◌, ℕ, ◌-◌, ◌<◌, ◌≤◌, List, [], ◌∷◌, length, get_or, take, drop, sym, refl, ap, ◌∙◌, arith, length-drop}
+use Rattle.std.proofs.Common.{◌≡◌, ℕ, ◌-◌, ◌<◌, List, [], ◌∷◌, length, get_or, take, drop, sym, refl, ap, arith, length-drop}
 use Rattle.std.proofs.lemmas.List.{take_all}
 
 -- what `after` holds under a pattern with n elements before `after @ ..`

@@ -1,12 +1,12 @@
 -- The laws of `tokens`.
-use Rattle.std.proofs.Common.{◌≡◌, ℕ, zero, suc, ◌+◌, ◌<◌, ◌≤◌, Bool, true, false, cond, eqb, List, [], ◌∷◌, length, get_or, take, drop, Ok, Err, sym, refl, ap, ◌∙◌, ap₂, add-zero, add-one, arith}
+use Rattle.std.proofs.Common.{◌≡◌, ℕ, zero, suc, ◌+◌, ◌<◌, ◌≤◌, true, false, eqb, List, [], ◌∷◌, length, get_or, take, drop, Ok, Err, sym, refl, ap, ◌∙◌, ap₂, add-zero, add-one, arith}
 use Rattle.std.proofs.lemmas.Bool.{cond-true, cond-false, ne_eqb}
 use Rattle.fault.specs.declared.Refusal.{Refusal}
 use Rattle.text.specs.declared.token.Sort.{Sort}
 use Rattle.text.specs.declared.token.Sort.TheVariants as sorts
 use Rattle.text.specs.declared.token.Mark.TheVariants.{Turn, Colon}
 use Rattle.text.specs.Classes.{class_of, blank}
-use Rattle.text.specs.Tokens.{Stream, token, end, fault, tokens, first, front, tok, mark}
+use Rattle.text.specs.Tokens.{token, end, fault, tokens, first, front, tok, mark}
 use Rattle.text.proofs.Slices.{past, past_is}
 
 pub tokens_skip : (s : List ℕ) (k at : ℕ) → k ≤ length s → tokens k at s ≡ tokens 0 (at + k) (drop k s)

@@ -1,4 +1,4 @@
-use Rattle.std.proofs.Common.{◌≡◌, suc, ◌+◌, ◌-◌, ◌<◌, ◌≤◌, true, false, eqb, length, get_or, take, drop, sym, ap, ◌∙◌, arith, rules, ne_eqb}
+use Rattle.std.proofs.Common.{◌≡◌, ◌+◌, ◌-◌, ◌<◌, true, false, eqb, length, get_or, take, sym, ◌∙◌, arith, rules, ne_eqb}
 use Rattle.std.proofs.lemmas.List.{take_all}
 use Rattle.text.proofs.Slices as slices
 use Rattle.bigvosk.specs.Cuts.{before, past}

@@ -1,4 +1,4 @@
-use Rattle.std.proofs.Common.{◌≡◌, vec_items, ap, ◌∙◌}
+use Rattle.std.proofs.Common.{vec_items, ap, ◌∙◌}
 use Rattle.bigvosk.specs.Scripts.{next_kind}
 use Rattle.bigvosk.proofs.Working.{kind_passed, print_passed, print_line}
 use Rattle.bigvosk.proofs.work.work_line.Goals as goal

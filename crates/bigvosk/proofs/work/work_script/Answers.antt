@@ -1,4 +1,4 @@
-use Rattle.std.proofs.Common.{◌≡◌, ◌<◌, ◌++◌, length, vec_items, ap, ◌∙◌, rules}
+use Rattle.std.proofs.Common.{◌<◌, ◌++◌, length, vec_items, ap, ◌∙◌, rules}
 use Rattle.bigvosk.specs.Scripts.{kind_after, lines_of, printed, transcript}
 use Rattle.bigvosk.proofs.Lining.{lines_stand}
 use Rattle.bigvosk.proofs.Working.{kind_on, print_on, kind_end, print_end}

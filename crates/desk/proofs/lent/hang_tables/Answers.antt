@@ -1,4 +1,4 @@
-use Rattle.std.proofs.Common.{◌≡◌, sym, refl}
+use Rattle.std.proofs.Common.{◌≡◌, sym}
 use Rattle.plan.specs.Model.{tables_of}
 use Rattle.desk.specs.declared.desk.Rows.{Rows}
 use Rattle.desk.specs.Held.{tabled}

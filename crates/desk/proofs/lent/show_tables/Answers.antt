@@ -1,4 +1,4 @@
-use Rattle.std.proofs.Common.{◌≡◌, length, refl, ◌∙◌}
+use Rattle.std.proofs.Common.{length, refl, ◌∙◌}
 use Rattle.plan.specs.declared.tables.Plan.{Plan}
 use Rattle.desk.proofs.Asking.{buffer_same, show_same}
 use Rattle.desk.proofs.lent.show_tables.Goals as goal

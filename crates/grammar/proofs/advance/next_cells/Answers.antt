@@ -1,7 +1,4 @@
-use Rattle.std.proofs.Common.{◌≡◌, ◌+◌, ◌<◌, sym, ap, ◌∙◌, arith, rules}
-use Rattle.grammar.specs.Seen.{seen}
-use Rattle.grammar.specs.State.{state_of}
-use Rattle.grammar.specs.Tests.{too_deep}
+use Rattle.std.proofs.Common.{rules}
 use Rattle.grammar.proofs.Cells.{cells_open, cells_close, cells_marked, room_above}
 use Rattle.grammar.proofs.advance.next_cells.Goals as goal
 

@@ -1,4 +1,4 @@
-use Rattle.std.proofs.Common.{◌≡◌, sym, ap, ◌∙◌}
+use Rattle.std.proofs.Common.{sym, ap, ◌∙◌}
 use Rattle.grammar.specs.Seen.{seen}
 use Rattle.grammar.specs.State.{state_of}
 use Rattle.grammar.specs.Reading.{judged}

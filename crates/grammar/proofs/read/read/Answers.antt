@@ -1,11 +1,6 @@
-use Rattle.std.proofs.Common.{◌≡◌, ◌<◌, length, Some, None, Ok, Err, Result, sym, refl, ap, ◌∙◌, subst, arith, rules}
+use Rattle.std.proofs.Common.{◌≡◌, ◌<◌, length, Ok, Err, sym, ap, ◌∙◌, subst, arith}
 use Rattle.std.proofs.lemmas.Result.{err_from_is_err_and}
-use Rattle.fault.specs.declared.Fault.{Fault}
-use Rattle.text.specs.Tokens.{tokens}
-use Rattle.grammar.specs.declared.sheet.Sheet.{Sheet}
-use Rattle.grammar.specs.State.{start}
-use Rattle.grammar.specs.Names.{names_of}
-use Rattle.grammar.specs.Reading.{hang_events, events_from, event, end}
+use Rattle.grammar.specs.Reading.{hang_events, event, end}
 use Rattle.grammar.specs.Pull.{left, given, Goes, final, ComesTo, view}
 use Rattle.grammar.specs.Sheets.{empty, tally, tallied, once_in, text_names, with_once, sheet_of, refusal_of}
 use Rattle.grammar.proofs.Firsts.{reading_laws}

@@ -1,4 +1,4 @@
-use Rattle.std.proofs.Common.{◌≡◌, ◌+◌, ◌-◌, ◌<◌, length, set, sym, ap, ◌∙◌, arith}
+use Rattle.std.proofs.Common.{◌≡◌, ◌+◌, ◌<◌, length, set, ap, ◌∙◌, arith}
 use Rattle.hang.proofs.Ported.{arities_port, port_added, port_free}
 use Rattle.hang.proofs.atoms.add_port.Goals as goal
 

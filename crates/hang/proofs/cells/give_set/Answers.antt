@@ -1,4 +1,4 @@
-use Rattle.std.proofs.Common.{◌≡◌, ◌≤◌, length, get_or, take, set, sym, ap, ◌∙◌, arith, length-take, get_or-take}
+use Rattle.std.proofs.Common.{◌≤◌, length, take, set, sym, ap, ◌∙◌, arith, length-take, get_or-take}
 use lib.Seq.{set_out, take-set-lt}
 use Rattle.plan.specs.declared.tables.Cell.{Cell}
 use Rattle.plan.specs.Sound.{no_cell}

@@ -1,4 +1,4 @@
-use Rattle.std.proofs.Common.{map, ap, ◌∙◌, ap₂}
+use Rattle.std.proofs.Common.{map, ◌∙◌, ap₂}
 use Rattle.placing.specs.Placing.{put}
 use Rattle.hang.proofs.Relinking.{map_next, map_done}
 use Rattle.hang.proofs.connect.join.Goals as goal

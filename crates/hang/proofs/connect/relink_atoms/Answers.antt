@@ -1,4 +1,4 @@
-use Rattle.std.proofs.Common.{◌≡◌, ◌<◌, ◌≤◌, true, leb, map, length, take, set, sym, ap, ◌∙◌, arith}
+use Rattle.std.proofs.Common.{◌≡◌, ◌<◌, leb, map, length, take, set, sym, ap, ◌∙◌, arith}
 use Rattle.plan.specs.Model.{node_of}
 use Rattle.plan.specs.Sound.{each}
 use Rattle.std.proofs.lemmas.List.Edits.{map_over_more}

@@ -1,6 +1,5 @@
-use Rattle.std.proofs.Common.{◌≡◌, ◌<◌, map, length, get_or, take, sym, refl, ap, ◌∙◌, arith}
+use Rattle.std.proofs.Common.{◌≡◌, map, length, get_or, take, ap, ◌∙◌, arith}
 use Rattle.std.proofs.lemmas.List.{take_all}
-use Rattle.plan.specs.declared.tables.FreeLink.{FreeLink}
 use Rattle.plan.proofs.Naming.{no_link}
 use Rattle.placing.specs.Placing.{refreed}
 use Rattle.hang.proofs.Relinking.{copied_next}

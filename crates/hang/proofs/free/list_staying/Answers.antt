@@ -1,8 +1,6 @@
-use Rattle.std.proofs.Common.{◌≡◌, ◌+◌, ◌<◌, ◌≤◌, Bool, true, false, not, eqb, [], length, get_or, take, filter, sym, refl, ap, ◌∙◌, subst, arith, rules}
+use Rattle.std.proofs.Common.{◌≡◌, not, take, filter, sym, ap, ◌∙◌, subst, arith}
 use Rattle.std.proofs.lemmas.List.{take_all}
 use Rattle.grammar.specs.Names.{names_of}
-use Rattle.grammar.specs.State.{times}
-use Rattle.plan.specs.declared.tables.FreeLink.{FreeLink}
 use Rattle.plan.proofs.Naming.{no_link}
 use Rattle.placing.specs.Links.{stays}
 use Rattle.hang.specs.Rows.{Filled}

@@ -1,4 +1,4 @@
-use Rattle.std.proofs.Common.{◌≡◌, Ok, sym, refl, ap, ◌∙◌, rules}
+use Rattle.std.proofs.Common.{sym, ◌∙◌}
 use Rattle.plan.specs.Model.{model_of}
 use Rattle.placing.specs.Counts.{SheetCounts}
 use Rattle.placing.proofs.Counting.{sheet_ok}

@@ -1,10 +1,8 @@
-use Rattle.std.proofs.Common.{◌≡◌, ◌≤◌, min, true, false, [], length, sym, refl, ap, ◌∙◌, subst, arith, rules}
+use Rattle.std.proofs.Common.{◌≡◌, min, [], length, sym, ap, ◌∙◌, arith, rules}
 use Rattle.std.proofs.lemmas.Bool.{leb-true}
 use Rattle.grammar.specs.Laws.{fault_of}
-use Rattle.grammar.specs.Names.{names_of}
 use Rattle.grammar.specs.Pull.{left}
 use Rattle.grammar.specs.Reading.{hang_events}
-use Rattle.grammar.specs.Sheets.{text_names}
 use Rattle.plan.specs.Model.{model_of}
 use Rattle.placing.specs.Answer.{hung_text}
 use Rattle.placing.specs.Counts.{labels_in}

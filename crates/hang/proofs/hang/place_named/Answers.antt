@@ -1,17 +1,15 @@
-use Rattle.std.proofs.Common.{◌≡◌, ℕ, ◌+◌, ◌-◌, ◌≤◌, min, Bool, true, false, leb, List, length, take, sym, refl, ap, ◌∙◌, subst, ap₂, arith, length-take, rules}
+use Rattle.std.proofs.Common.{◌≡◌, ℕ, ◌+◌, ◌-◌, ◌≤◌, min, List, length, take, sym, ap, ◌∙◌, subst, ap₂, arith, length-take, rules}
 use Rattle.std.proofs.lemmas.Bool.{leb-true}
 use Rattle.grammar.specs.declared.stand.Standing.{Standing}
 use Rattle.grammar.specs.Names.{names_of}
 use Rattle.grammar.specs.Pull.{left}
-use Rattle.grammar.specs.Reading.{Events, hang_events}
+use Rattle.grammar.specs.Reading.{hang_events}
 use Rattle.grammar.specs.Sheets.{text_names}
-use Rattle.plan.specs.declared.tables.FreeLink.{FreeLink}
 use Rattle.plan.specs.Model.{model_of}
 use Rattle.placing.specs.Links.{free_after, link_at}
 use Rattle.placing.specs.Placing.{absorbed, begun, links_in, place_all}
 use Rattle.hang.specs.Hand.{Placeable, fresh_hand}
 use Rattle.hang.specs.Rows.{Filled}
-use Rattle.hang.proofs.Filling.{filled_whole}
 use Rattle.hang.proofs.Hanging.{begun_left, counts, free_test, handed_free, handed_link, placeable, written_free}
 use Rattle.hang.proofs.hang.place_named.Goals as goal
 

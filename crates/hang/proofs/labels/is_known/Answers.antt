@@ -1,4 +1,4 @@
-use Rattle.std.proofs.Common.{◌≡◌, true, false, ◌||◌, sym, refl, ap, ◌∙◌, rules}
+use Rattle.std.proofs.Common.{◌||◌, sym, ap, ◌∙◌, rules}
 use Rattle.text.proofs.Slices.{past}
 use Rattle.hang.specs.Labels.{known}
 use Rattle.hang.proofs.Labelling.{known_here, known_none, no_token}

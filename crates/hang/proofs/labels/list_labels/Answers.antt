@@ -1,9 +1,9 @@
-use Rattle.std.proofs.Common.{◌≡◌, ◌+◌, ◌≤◌, true, length, take, None, sym, refl, ap, ◌∙◌, subst, arith, rules}
+use Rattle.std.proofs.Common.{◌≡◌, ◌+◌, take, sym, ap, ◌∙◌, arith}
 use Rattle.grammar.specs.Laws.{fault_of}
 use Rattle.grammar.specs.Pull.{left}
 use Rattle.grammar.specs.Reading.{event, end}
 use Rattle.placing.specs.Counts.{labels_at, labels_in}
-use Rattle.hang.specs.Labels.{all_mine, is_mine, lacking}
+use Rattle.hang.specs.Labels.{all_mine, lacking}
 use Rattle.hang.proofs.Heading.{ends_there}
 use Rattle.hang.proofs.Labelling.{labels_on, lacking_end, lacking_on, mine_on}
 use Rattle.hang.proofs.labels.list_labels.Goals as goal

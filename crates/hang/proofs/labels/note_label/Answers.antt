@@ -1,4 +1,4 @@
-use Rattle.std.proofs.Common.{◌≡◌, ◌+◌, ◌<◌, ◌≤◌, length, sym, ap, arith, rules}
+use Rattle.std.proofs.Common.{◌≡◌, ◌<◌, length, sym, ap, arith}
 use Rattle.placing.specs.Counts.{labels_at}
 use Rattle.hang.proofs.Labelling.{noted_new}
 use Rattle.hang.proofs.labels.note_label.Goals as goal

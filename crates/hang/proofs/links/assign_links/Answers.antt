@@ -1,4 +1,4 @@
-use Rattle.std.proofs.Common.{◌≡◌, ◌+◌, ◌-◌, ◌<◌, ◌≤◌, ◌++◌, length, take, drop, sym, ap, ◌∙◌, append-nil, arith, length-drop, rules}
+use Rattle.std.proofs.Common.{◌≡◌, ◌-◌, ◌<◌, ◌++◌, length, take, drop, sym, ap, ◌∙◌, append-nil, arith, length-drop, rules}
 use Rattle.text.proofs.Slices.{past_is}
 use Rattle.hang.proofs.Assigning.{links_end, one_closed, one_new}
 use Rattle.hang.proofs.links.assign_links.Goals as goal

@@ -1,4 +1,4 @@
-use Rattle.std.proofs.Common.{◌≡◌, ◌≤◌, length, take, arith, rules}
+use Rattle.std.proofs.Common.{◌≡◌, take, arith}
 use Rattle.plan.specs.Model.{model_of}
 use Rattle.placing.specs.Links.{unused}
 use Rattle.hang.proofs.Assigning.{linked_parts, unused_parts}

@@ -1,4 +1,3 @@
-use Rattle.std.proofs.Common.{rules}
 use Rattle.hang.proofs.Heading.{heads, headless}
 use Rattle.hang.proofs.next.next_event.Goals as goal
 

@@ -1,4 +1,4 @@
-use Rattle.std.proofs.Common.{◌≤◌, arith, rules}
+use Rattle.std.proofs.Common.{◌≤◌, arith}
 use Rattle.plan.specs.Model.{model_of}
 use Rattle.hang.proofs.Registering.{few_nodes, register_filed, register_fits}
 use Rattle.hang.proofs.place.place_label.Goals as goal

@@ -1,4 +1,4 @@
-use Rattle.std.proofs.Common.{◌≡◌, length, sym, refl, ap, ◌∙◌, subst, rules}
+use Rattle.std.proofs.Common.{◌≡◌, sym, ap, ◌∙◌, subst}
 use Rattle.grammar.specs.Names.{names_of}
 use Rattle.grammar.specs.Pull.{left}
 use Rattle.grammar.specs.Reading.{event}

@@ -1,4 +1,4 @@
-use Rattle.std.proofs.Common.{◌≡◌, ℕ, ◌≤◌, Bool, eqb, List, ◌++◌, map, length, filter, ◌∙◌, subst, arith}
+use Rattle.std.proofs.Common.{◌≡◌, ℕ, Bool, eqb, ◌++◌, map, length, filter, subst, arith}
 use Rattle.plan.specs.Model.{node_of}
 use Rattle.plan.specs.Sound.{count, port_links, rows}
 use Rattle.hang.specs.Rows.{Filled}

@@ -1,7 +1,7 @@
-use Rattle.std.proofs.Common.{◌≡◌, ℕ, ◌+◌, Bool, true, false, eqb, List, get_or, filter, sym, subst, arith, rules}
+use Rattle.std.proofs.Common.{ℕ, Bool, eqb, get_or, filter, sym, subst, arith}
 use Rattle.std.proofs.lemmas.Bool.{eq-eqb, ne_eqb}
 use Rattle.plan.specs.Sound.{rows}
-use Rattle.hang.specs.Rows.{Filled, pushed}
+use Rattle.hang.specs.Rows.{Filled}
 use Rattle.hang.proofs.Filling.{filled_none, filled_more, kept_yes, kept_no, none_kept}
 use Rattle.hang.proofs.unused.list_zeros.Goals as goal
 use Rattle.hang.proofs.unused.list_zeros.Goals.{then-counts-x-eq0, else-counts-x-eq0}

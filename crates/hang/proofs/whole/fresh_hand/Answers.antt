@@ -1,7 +1,6 @@
-use Rattle.std.proofs.Common.{◌≡◌, suc, ◌+◌, ◌<◌, [], ◌∷◌, ◌++◌, length, take, sym, refl, ap, ◌∙◌, ap₂, arith, length-set}
+use Rattle.std.proofs.Common.{◌≡◌, suc, ◌+◌, ◌<◌, [], ◌∷◌, ◌++◌, length, sym, refl, ap, ◌∙◌, ap₂, arith, length-set}
 use Rattle.std.proofs.lemmas.List.{take_all, take_more_set}
 use Rattle.plan.specs.Sound.{rows}
-use Rattle.hang.specs.declared.hand.Hand.{Hand}
 use Rattle.hang.proofs.Filling.{first_rows, rows_more}
 use Rattle.hang.proofs.whole.fresh_hand.Goals as goal
 

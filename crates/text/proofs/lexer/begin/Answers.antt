@@ -1,4 +1,4 @@
-use Rattle.std.proofs.Common.{◌≡◌, ◌+◌, ◌<◌, length, get_or, drop, Ok, Err, sym, refl, ap, ◌∙◌, arith, rules}
+use Rattle.std.proofs.Common.{◌≡◌, ◌<◌, length, get_or, drop, Ok, Err, sym, ap, ◌∙◌, rules}
 use Rattle.text.specs.Tokens.{front}
 use Rattle.text.proofs.Slices.{past_is}
 use Rattle.text.proofs.Streams.{tokens_first, tokens_fault, tokens_turn, tokens_colon}

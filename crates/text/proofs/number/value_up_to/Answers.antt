@@ -1,5 +1,4 @@
-use Rattle.std.proofs.Common.{◌≡◌, ℕ, ◌+◌, ◌-◌, ◌*◌, ◌<◌, ◌≤◌, min, length, get_or, sym, refl, ap, ◌∙◌, arith, rules}
-use Rattle.text.specs.Numbers.{digits_value}
+use Rattle.std.proofs.Common.{◌≡◌, ◌+◌, ◌-◌, ◌*◌, ◌<◌, ◌≤◌, min, length, get_or, sym, ap, ◌∙◌, arith, rules}
 use Rattle.text.proofs.Slices.{past}
 use Rattle.text.proofs.Numbers.{value_on, value_none, value_capped}
 use Rattle.text.proofs.number.value_up_to.Goals as goal

@@ -1,4 +1,4 @@
-use Rattle.std.proofs.Common.{◌≡◌, ◌<◌, ◌≤◌, [], length, get_or, sym, refl, ap, ◌∙◌, arith, rules}
+use Rattle.std.proofs.Common.{◌≡◌, ◌<◌, [], length, sym, refl, ap, ◌∙◌, arith, rules}
 use Rattle.text.proofs.Slices.{past, at_first, at_none}
 use Rattle.text.proofs.Packing.{room, turn_some, turn_none, turns_done}
 use Rattle.text.proofs.packed.packed.Goals as goal

@@ -1,4 +1,4 @@
-use Rattle.std.proofs.Common.{◌≡◌, suc, ◌+◌, ◌-◌, ◌%◌, ◌<◌, [], length, drop, set, sym, refl, ap, ◌∙◌, arith, length-set, rules}
+use Rattle.std.proofs.Common.{◌≡◌, suc, ◌+◌, ◌-◌, ◌%◌, [], length, set, sym, ap, ◌∙◌, arith, length-set}
 use Rattle.text.specs.Packed.{digits, before_zero}
 use Rattle.text.proofs.Shapes.{digit_more, digits_done}
 use Rattle.text.proofs.packed.spelled.Goals as goal

@@ -1,6 +1,6 @@
-use Rattle.std.proofs.Common.{◌≡◌, length, sym, ap, ◌∙◌}
+use Rattle.std.proofs.Common.{length, sym, ap, ◌∙◌}
 use Rattle.desk.specs.Calls.{show_told, shown_over}
-use Rattle.desk.specs.Held.{held, on_desk, tabled}
+use Rattle.desk.specs.Held.{held}
 use Rattle.showing.specs.Shown.{shown}
 use Rattle.desk.proofs.Lending.{back, lent}
 use Rattle.desk.proofs.desk.Desk.show.Goals as goal

@@ -1,5 +1,5 @@
-use Rattle.std.proofs.Common.{◌≡◌, [], refl, ap, ◌∙◌}
-use Rattle.grammar.specs.State.{State, open_cells}
+use Rattle.std.proofs.Common.{[], refl, ap}
+use Rattle.grammar.specs.State.{open_cells}
 use Rattle.grammar.specs.declared.stand.Phase.TheVariants.{Start}
 use Rattle.grammar.proofs.reader.Reader.new.Goals as goal
 

@@ -1,9 +1,9 @@
-use Rattle.std.proofs.Common.{◌≡◌, ℕ, ◌+◌, ◌<◌, length, Some, None, Ok, Err, sym, refl, ap, ◌∙◌, subst, arith}
+use Rattle.std.proofs.Common.{◌≡◌, ℕ, ◌+◌, ◌<◌, length, Ok, sym, ap, ◌∙◌, subst, arith}
 use Rattle.std.proofs.lemmas.Result.{err_from_is_err_and}
 use Rattle.text.specs.Tokens as tokens
 use Rattle.text.specs.Answer.{answer, shape, GoesOn}
 use Rattle.grammar.specs.Reading.{follow}
-use Rattle.grammar.specs.Pull.{view, left, Taken}
+use Rattle.grammar.specs.Pull.{view, left}
 use Rattle.grammar.proofs.Pulling.{on_end, on_fault, finished, taken, refused, final_taken, final_end}
 use Rattle.grammar.proofs.reader.Reader.next.Given as given
 use Rattle.grammar.proofs.reader.Reader.next.Goals as goal

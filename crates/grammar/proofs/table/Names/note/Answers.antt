@@ -1,5 +1,4 @@
-use Rattle.std.proofs.Common.{◌<◌, ◌≤◌, length, take, arith, rules}
-use Rattle.grammar.specs.Names.{position}
+use Rattle.std.proofs.Common.{◌<◌, ◌≤◌, length, arith, rules}
 use Rattle.grammar.proofs.Looking.{table_again, table_new}
 use Rattle.grammar.proofs.table.Names.note.Goals as goal
 
