@@ -35,7 +35,7 @@ use Rattle.forming.proofs.Ending.{all_lie, at_row_map, lies, named_rows, old_row
 use Rattle.forming.proofs.Names.{connectors_stand, form_names, times_form, written_least}
 use Rattle.forming.proofs.Opening.{open_after, open_refreed}
 use Rattle.forming.proofs.Placed.{form_is, placed, placed_is}
-use Rattle.forming.proofs.Quotient.{base, connected, tells as joined-tells}
+use Rattle.forming.proofs.Quotient.{base, connected, tells as joined_tells}
 
 open_counts : (n : Name) (free : List FreeLink) (x : ℕ) → open_link n free ≡ Some x → 0 < count x (free_links free)
 unfolding open_link count
@@ -148,7 +148,7 @@ module _ {L : Type 0} (k : Kind L) (law : Lawful k) (m : Model L) (bs : List ℕ
   told : (p q : Point) → Held p → Held q → on p ≡ on q → Joined m h p q
   unfolding Held
   told =
-      joined-tells (name_link m bs) m h Held (connectors h) (rows 0 8256) low
+      joined_tells (name_link m bs) m h Held (connectors h) (rows 0 8256) low
       (λ x y i. let b = connectors_stand h x y i in (b.0, b.1, by_connector x y i))
       (λ p q hp hq e. first_tells p q hp hq (sym (become_rows 8256 (base (name_link m bs) p)) ∙ e ∙ become_rows 8256 (base (name_link m bs) q)))
 

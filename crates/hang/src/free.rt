@@ -2,7 +2,7 @@
 ghost use Rattle.std.specs.Prelude.{◌≡◌, ◌≤◌, List, ◌++◌, length, filter, ◌==◌};
 ghost use Rattle.grammar.specs.Names.{names_of};
 ghost use Rattle.grammar.specs.State.{times};
-ghost use Rattle.placing.specs.Links.{free_after, opened, opens as is-opening, stays};
+ghost use Rattle.placing.specs.Links.{free_after, opened, opens as is_opening, stays};
 ghost use Rattle.hang.specs.Rows.{Filled};
 
 use crate::links::open_link;
@@ -22,7 +22,7 @@ fn stands_once(name: Name, names: &Names) -> bool
 
 /// Whether a name of a text opens: it stands once, and is not open on the plan.
 fn opens(standing: &Standing, free: &[FreeLink]) -> bool
-    ensures { result ≡ is-opening free.now standing.now }
+    ensures { result ≡ is_opening free.now standing.now }
 {
     !standing.twice && open_link(standing.name, free).is_none()
 }

@@ -7,7 +7,7 @@ ghost use Rattle.plan.specs.Model.{model_of};
 ghost use Rattle.plan.specs.Places.{Filed};
 ghost use Rattle.plan.specs.Sound.{registered};
 ghost use Rattle.placing.specs.Counts.{labels_at, labels_in};
-ghost use Rattle.hang.specs.Labels.{all_mine, is_mine, known, lacking, noted_label, same as alike-spelled, same_form, spelled};
+ghost use Rattle.hang.specs.Labels.{all_mine, is_mine, known, lacking, noted_label, same as alike_spelled, same_form, spelled};
 
 use crate::next::next_event;
 use crate::rows::push;
@@ -58,7 +58,7 @@ fn same_bytes(a: &[u8], b: &[u8]) -> bool
 
 /// Whether two tokens are the same.
 fn same(a: &Spelled, b: &Spelled) -> bool
-    ensures { result ≡ alike-spelled a.now b.now }
+    ensures { result ≡ alike_spelled a.now b.now }
 {
     same_form(a.form, b.form) && a.length == b.length && same_bytes(&a.bytes, &b.bytes)
 }
