@@ -1,110 +1,85 @@
--- The two parts of a cut, front to back.
-use Rattle.std.proofs.Common.{◌≡◌, ℕ, zero, suc, ◌<◌, ◌≤◌, Bool, true, false, cond, eqb, ◌⊎◌, List, [], ◌∷◌, ◌++◌, length, get_or, take, sym, refl, ap, ◌∙◌, inl, inr, arith, eqb-true}
-use borrow.Author.Tests.{eqb-false}
-use Rattle.std.proofs.lemmas.Bool.{cond-true, cond-false}
-use Rattle.text.proofs.Slices.{at_first, at_none}
-use Rattle.text.proofs.Slices as slices
+-- The two parts of a cut.
+use Rattle.std.proofs.Common.{◌≡◌, ℕ, suc, ◌+◌, ◌-◌, Bool, true, false, cond, eqb, ltb, not, ◌⊎◌, Some, None, List, [], ◌∷◌, ◌++◌, length, get_or, take, drop, sym, refl, ap, ◌∙◌, inl, inr, arith, eqb-true, length-drop}
+use borrow.Author.Tests.{eqb-false, ltb-true, ltb-false}
+use Rattle.std.specs.List.{position, position_or_len}
+use Rattle.std.proofs.lemmas.List.{take_all, drop_all, get_or-take}
+use Rattle.std.proofs.lemmas.List.Sums.{fails_before_first, passes_at_first, split_at_first}
+use Rattle.std.proofs.lemmas.List.Folds.{length-prefix_len}
 use Rattle.bigvosk.specs.Cuts.{before, past, Free, CutAt}
 
 module _ (m : ℕ) where
-  before_on : (b : ℕ) (bs : List ℕ) → eqb b m ≡ false → before m (b ∷ bs) ≡ b ∷ before m bs
+  abbrev At : ℕ → Bool
+  At b = eqb b m
+
+  -- by a text's first byte
+  take_turn : (t : Bool) (n b : ℕ) (bs : List ℕ) → take (cond (not t) (1 + n) 0) (b ∷ bs) ≡ cond t [] (b ∷ take n bs)
+  take_turn true n b bs = refl
+  take_turn false n b bs = let e : 1 + n ≡ suc n = omega arith in ap (λ k. take k (b ∷ bs)) e
+
+  drop_turn : (t : Bool) (n b : ℕ) (bs : List ℕ) → drop (cond (not t) (1 + n) 0 + 1) (b ∷ bs) ≡ cond t bs (drop (n + 1) bs)
+  drop_turn true n b bs = refl
+  drop_turn false n b bs = let e : 1 + n + 1 ≡ suc (n + 1) = omega arith in ap (λ k. drop k (b ∷ bs)) e
+
+  pub before_turn : (b : ℕ) (bs : List ℕ) → before m (b ∷ bs) ≡ cond (eqb b m) [] (b ∷ before m bs)
   unfolding before
-  before_on b bs t = cond-false (eqb b m) _ _ t
+  before_turn b bs = take_turn (eqb b m) _ b bs
 
-  before_at : (b : ℕ) (bs : List ℕ) → eqb b m ≡ true → before m (b ∷ bs) ≡ []
-  unfolding before
-  before_at b bs t = cond-true (eqb b m) _ _ t
-
-  past_on : (b : ℕ) (bs : List ℕ) → eqb b m ≡ false → past m (b ∷ bs) ≡ past m bs
+  pub past_turn : (b : ℕ) (bs : List ℕ) → past m (b ∷ bs) ≡ cond (eqb b m) bs (past m bs)
   unfolding past
-  past_on b bs t = cond-false (eqb b m) _ _ t
+  past_turn b bs = drop_turn (eqb b m) _ b bs
 
-  past_at : (b : ℕ) (bs : List ℕ) → eqb b m ≡ true → past m (b ∷ bs) ≡ bs
-  unfolding past
-  past_at b bs t = cond-true (eqb b m) _ _ t
+  some_at : (t : Bool) (n i : ℕ) → Some n ≡ cond t (Some i) None → n ≡ i
+  some_at true n i e = cc
+  some_at false n i e = absurd (cc)
 
-  pub before_none : before m [] ≡ []
-  unfolding before
-  before_none = refl
+  none_at : (t : Bool) (i : ℕ) → None ≡ cond t (Some i) None → t ≡ false
+  none_at true i e = absurd (cc)
+  none_at false i e = refl
 
-  pub past_none : past m [] ≡ []
-  unfolding past
-  past_none = refl
+  module _ (s : List ℕ) where
+    abbrev at : ℕ
+    at = position_or_len At s
 
-  before_front : (b : ℕ) (bs : List ℕ) (t : Bool) → before m bs ≡ take (length (before m bs)) bs →
-      cond t [] (b ∷ before m bs) ≡ take (length (cond t [] (b ∷ before m bs))) (b ∷ bs)
-  before_front b bs true e = refl
-  before_front b bs false e = ap (λ x. b ∷ x) e
+    -- what `position` finds is where the text is cut
+    pub before_at : (n : ℕ) → Some n ≡ position At s → take n s ≡ before m s
+    unfolding before
+    before_at n e = ap (λ k. take k s) (some_at (ltb at (length s)) n at e)
 
-  -- what is before the mark is the front of the text
-  pub before_take : (s : List ℕ) → before m s ≡ take (length (before m s)) s
-  unfolding before
-  before_take [] = refl
-  before_take (b ∷ bs) = before_front b bs (eqb b m) (before_take bs)
+    pub past_at : (n : ℕ) → Some n ≡ position At s → take (length s - (n + 1)) (drop (n + 1) s) ≡ past m s
+    unfolding past
+    past_at n e =
+        let l = length-drop (n + 1) s in
+        take_all (length s - (n + 1)) (drop (n + 1) s) (omega arith) ∙ ap (λ k. drop (k + 1) s) (some_at (ltb at (length s)) n at e)
 
-  free_on : (b : ℕ) (bs front : List ℕ) (t : Bool) → eqb b m ≡ t → Free m front → Free m (cond t [] (b ∷ front))
-  free_on b bs front true e h k l = absurd (omega arith)
-  free_on b bs front false e h zero l = eqb-false b m e
-  free_on b bs front false e h (suc k) l = h k (omega arith)
+    pub before_none : None ≡ position At s → s ≡ before m s
+    unfolding before
+    before_none e = let l = ltb-false at (length s) (none_at (ltb at (length s)) at e) in sym (take_all at s l)
 
-  free : (s : List ℕ) → Free m (before m s)
-  unfolding before
-  free [] k l = absurd (omega arith)
-  free (b ∷ bs) k l = free_on b bs (before m bs) (eqb b m) refl (free bs) k l
+    pub past_none : None ≡ position At s → [] ≡ past m s
+    unfolding past
+    past_none e = let l = ltb-false at (length s) (none_at (ltb at (length s)) at e) in sym (drop_all (at + 1) s (omega arith))
 
-  abbrev Whole : List ℕ → List ℕ → List ℕ → Type 0
-  Whole s front back = (s ≡ front ++ (m ∷ back)) ⊎ ((s ≡ front) × (back ≡ []))
+    free : Free m (before m s)
+    unfolding before
+    free k l =
+        let e = length-prefix_len (λ b. not (At b)) s in
+        let is : get_or (take at s) k 0 ≡ get_or s k 0 = get_or-take at s k 0 (omega arith) in
+        λ same. eqb-false (get_or s k 0) m (fails_before_first At s k 0 (omega arith)) (sym is ∙ same)
 
-  longer : (b : ℕ) (s front back : List ℕ) → Whole s front back → Whole (b ∷ s) (b ∷ front) back
-  longer b s front back (inl e) = inl (ap (λ x. b ∷ x) e)
-  longer b s front back (inr e) = inr (ap (λ x. b ∷ x) e.0, e.1)
+    whole_by : (t : Bool) → ltb at (length s) ≡ t → (s ≡ before m s ++ (m ∷ past m s)) ⊎ ((s ≡ before m s) × (past m s ≡ []))
+    unfolding before past
+    whole_by true e =
+        let l = ltb-true at (length s) e in
+        inl (split_at_first At s 0 l ∙ ap (λ b. take at s ++ (b ∷ drop (at + 1) s)) (eqb-true (get_or s at 0) m (passes_at_first At s 0 l)))
+    whole_by false e =
+        let l = ltb-false at (length s) e in
+        inr (sym (take_all at s l), drop_all (at + 1) s (omega arith))
 
-  whole_on : (b : ℕ) (bs : List ℕ) (t : Bool) → eqb b m ≡ t → Whole bs (before m bs) (past m bs) →
-      Whole (b ∷ bs) (cond t [] (b ∷ before m bs)) (cond t bs (past m bs))
-  whole_on b bs true e h = inl (ap (λ x. x ∷ bs) (eqb-true b m e))
-  whole_on b bs false e h = longer b bs (before m bs) (past m bs) h
+    cut_is : (front back : List ℕ) → front ≡ before m s → back ≡ past m s → CutAt m s front back
+    cut_is front back e f = rw (e, f) (record { free = free; whole = whole_by (ltb at (length s)) refl })
 
-  whole : (s : List ℕ) → Whole s (before m s) (past m s)
-  unfolding before past
-  whole [] = inr (refl, refl)
-  whole (b ∷ bs) = whole_on b bs (eqb b m) refl (whole bs)
+    pub cut_at : (n : ℕ) → Some n ≡ position At s → CutAt m s (take n s) (take (length s - (n + 1)) (drop (n + 1) s))
+    cut_at n e = cut_is _ _ (before_at n e) (past_at n e)
 
-  pub cut_is : (s front back : List ℕ) → front ≡ before m s → back ≡ past m s → CutAt m s front back
-  cut_is s front back e f = rw (e, f) (record { free = free s; whole = whole s })
-
-  past_within : (b : ℕ) (bs : List ℕ) (t : Bool) → length (past m bs) ≤ length bs → length (cond t bs (past m bs)) ≤ length bs
-  past_within b bs true h = omega arith
-  past_within b bs false h = h
-
-  past_least : (s : List ℕ) → length (past m s) ≤ length s
-  unfolding past
-  past_least [] = omega arith
-  past_least (b ∷ bs) = let h = past_within b bs (eqb b m) (past_least bs) in omega arith
-
-  pub past_shorter : (s back : List ℕ) → back ≡ past m s → 0 < length s → length back < length s
-  unfolding past
-  past_shorter [] back e h = absurd (omega arith)
-  past_shorter (b ∷ bs) back e h = rw e (let l = past_within b bs (eqb b m) (past_least bs) in omega arith)
-
-  -- at a slice pattern
-  pub before_more : (s : List ℕ) → 0 < length s → eqb (get_or s 0 0) m ≡ false → length (before m s) ≡ suc (length (before m (slices.past 1 s)))
-  before_more s h t = ap (λ x. length (before m x)) (at_first 0 s h) ∙ ap length (before_on _ _ t)
-
-  pub past_more : (s : List ℕ) → 0 < length s → eqb (get_or s 0 0) m ≡ false → past m s ≡ past m (slices.past 1 s)
-  past_more s h t = ap (past m) (at_first 0 s h) ∙ past_on _ _ t
-
-  pub before_stop : (s : List ℕ) → 0 < length s → eqb (get_or s 0 0) m ≡ true → length (before m s) ≡ 0
-  before_stop s h t = ap (λ x. length (before m x)) (at_first 0 s h) ∙ ap length (before_at _ _ t)
-
-  pub past_stop : (s : List ℕ) → 0 < length s → eqb (get_or s 0 0) m ≡ true → past m s ≡ slices.past 1 s
-  past_stop s h t = ap (past m) (at_first 0 s h) ∙ past_at _ _ t
-
-  pub before_end : (s : List ℕ) → length s ≡ 0 → length (before m s) ≡ 0
-  before_end s h = ap (λ x. length (before m x)) (at_none s h) ∙ ap length before_none
-
-  pub past_end : (s : List ℕ) → length s ≡ 0 → past m s ≡ s
-  past_end s h = ap (past m) (at_none s h) ∙ past_none ∙ sym (at_none s h)
-
-  -- a front of the right length is what is before the mark
-  pub front_is : (s : List ℕ) (n : ℕ) → n ≡ length (before m s) → take n s ≡ before m s
-  front_is s n e = ap (λ k. take k s) e ∙ sym (before_take s)
+    pub cut_none : None ≡ position At s → CutAt m s s []
+    cut_none e = cut_is _ _ (before_none e) (past_none e)

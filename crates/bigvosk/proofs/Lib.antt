@@ -1,7 +1,5 @@
 mod Cutting
-mod Adding
 mod Working
-mod Refusing
 mod Pointing
 mod Lining
 mod Counting

@@ -4,13 +4,14 @@ use Rattle.fault.specs.declared.Fault.{Fault}
 use Rattle.fault.specs.declared.Layer.{Layer}
 use Rattle.fault.specs.declared.Layer.TheVariants.{Text, Grammar, Book, Plan, Run}
 use Rattle.fault.specs.declared.Refusal.{Refusal}
+use Rattle.fault.specs.Words.{layer_name}
 use Rattle.fault.specs.Table.{number_of, layer_of}
 use Rattle.label.specs.WordKind.{word_kind}
 use Rattle.label.specs.WordOrNumberKind.{mixed_kind}
 use Rattle.grammar.specs.declared.sheet.Sheet.{Sheet}
 use Rattle.grammar.specs.Sheets.{sheet_of}
-use Rattle.bigvosk.specs.declared.line.KindName.{KindName}
-use Rattle.bigvosk.specs.declared.line.KindName.TheVariants.{Words, Numbers}
+use Rattle.label.specs.declared.named.KindName.{KindName}
+use Rattle.label.specs.declared.named.KindName.TheVariants.{Words, Numbers}
 use Rattle.bigvosk.specs.Commands.{Told, pass_over, set_kind, read_text, list_places, not_known}
 use Rattle.bigvosk.specs.Places.{places_by, places_line}
 use Rattle.bigvosk.specs.Windows.{newline, pointing}
@@ -19,13 +20,6 @@ use Rattle.bigvosk.specs.Windows.{newline, pointing}
 unfoldable pub read_as : KindName → List ℕ → Result Sheet Fault
 read_as Words text = sheet_of word_kind text
 read_as Numbers text = sheet_of mixed_kind text
-
-abbrev pub layer_name : Layer → List ℕ
-layer_name Text = codes "text"
-layer_name Grammar = codes "grammar"
-layer_name Book = codes "book"
-layer_name Plan = codes "plan"
-layer_name Run = codes "run"
 
 abbrev pub of_text : Layer → Bool
 of_text Text = true

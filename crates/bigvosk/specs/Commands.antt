@@ -1,8 +1,8 @@
 -- The command that each line of a script is.
 use Rattle.std.specs.Prelude.{ℕ, Bool, true, cond, List, [], ◌∷◌, Some, None, codes, Option, ◌==◌, nat_lt}
 use Rattle.std.specs.Str.{bytes_eq}
-use Rattle.bigvosk.specs.declared.line.KindName.{KindName}
-use Rattle.bigvosk.specs.declared.line.KindName.TheVariants.{Words, Numbers}
+use Rattle.label.specs.declared.named.KindName.{KindName}
+use Rattle.label.specs.declared.named.KindName.TheVariants.{Words, Numbers}
 use Rattle.bigvosk.specs.declared.line.OrderName.{OrderName}
 use Rattle.bigvosk.specs.declared.line.OrderName.TheVariants.{Written, Shuffled}
 use Rattle.bigvosk.specs.declared.line.Command.{Command}

@@ -1,15 +1,14 @@
 -- Bytes cut in two at the first byte that equals a mark.
-use Rattle.std.specs.Prelude.{◌≡◌, ℕ, ◌<◌, cond, ◌⊎◌, List, [], ◌∷◌, ◌++◌, length, ◌==◌, ◌≢◌, slice_index}
+use Rattle.std.specs.Prelude.{◌≡◌, ℕ, ◌<◌, ◌⊎◌, List, [], ◌∷◌, ◌++◌, length, ◌==◌, ◌≢◌, slice_index}
+use Rattle.std.specs.List.{after_first, before_first}
 
 -- what is before the first mark: all, where there is none
 unfoldable pub before : ℕ → List ℕ → List ℕ
-before mark [] = []
-before mark (b ∷ bs) = cond (b == mark) [] (b ∷ before mark bs)
+before mark = before_first (λ b. b == mark)
 
 -- what is past the first mark: nothing, where there is none
 unfoldable pub past : ℕ → List ℕ → List ℕ
-past mark [] = []
-past mark (b ∷ bs) = cond (b == mark) bs (past mark bs)
+past mark = after_first (λ b. b == mark)
 
 -- no byte equals the mark
 abbrev pub Free : ℕ → List ℕ → Type 0

@@ -1,6 +1,6 @@
 -- What a script prints.
 use Rattle.std.specs.Prelude.{◌≡◌, ℕ, cond, ◌⊎◌, List, [], ◌∷◌, ◌++◌, codes, ◌==◌}
-use Rattle.bigvosk.specs.declared.line.KindName.{KindName}
+use Rattle.label.specs.declared.named.KindName.{KindName}
 use Rattle.bigvosk.specs.Answers.{answer_to}
 use Rattle.bigvosk.specs.Commands.{Told, pass_over, set_kind, read_text, list_places, not_known, command_of}
 use Rattle.bigvosk.specs.Cuts.{Free}

@@ -1,19 +1,10 @@
 //! What a line of a script says.
 ghost use Rattle.std.specs.Prelude.{◌≡◌};
-ghost use Rattle.std.specs.Str.{bytes_eq};
 ghost use Rattle.bigvosk.specs.Commands.{command_of, kind_of, order_of, places_of, told};
 
 use crate::cut::cut;
 use crate::numbers::number_up_to;
-
-/// The kinds of labels that a script can choose.
-#[derive(Clone, Copy, PartialEq, Eq, Debug)]
-pub enum KindName {
-    /// Words only.
-    Words,
-    /// Words and numbers.
-    Numbers,
-}
+use label::named::KindName;
 
 /// The orders of trying that a script can name.
 #[derive(Clone, Copy, PartialEq, Eq, Debug)]
@@ -42,20 +33,13 @@ pub enum Command<'t> {
 /// The most things whose places can be listed.
 const MOST_PLACES: u32 = 4096;
 
-/// Whether two runs of bytes are the same.
-fn same(a: &[u8], b: &[u8]) -> bool
-    ensures { result ≡ bytes_eq a.now b.now }
-{
-    a == b
-}
-
 /// The command `kind` with this text.
 fn kind_command<'t>(text: &[u8]) -> Command<'t>
     ensures { told result ≡ kind_of text.now }
 {
-    if same(text, b"words") {
+    if text == b"words".as_slice() {
         Command::Kind(KindName::Words)
-    } else if same(text, b"numbers") {
+    } else if text == b"numbers".as_slice() {
         Command::Kind(KindName::Numbers)
     } else {
         Command::Unknown
@@ -63,23 +47,23 @@ fn kind_command<'t>(text: &[u8]) -> Command<'t>
 }
 
 /// The order that a text names: `written`, or `shuffled` and a seed.
+// No `TryFrom`: its error would say no more than `None`, that the command is unknown.
+#[tactic(auto, unfolding(crate::specs::Commands::order_of))]
 fn order_of(text: &[u8]) -> Option<OrderName>
     ensures { result ≡ order_of text.now }
 {
-    if same(text, b"written") {
+    if text == b"written".as_slice() {
         return Some(OrderName::Written);
     }
     let (word, seed) = cut(b' ', text);
-    if !same(word, b"shuffled") {
+    if word != b"shuffled".as_slice() {
         return None;
     }
-    match number_up_to(u32::MAX, seed) {
-        Some(seed) => Some(OrderName::Shuffled(seed)),
-        None => None,
-    }
+    number_up_to(u32::MAX, seed).map(OrderName::Shuffled)
 }
 
 /// The command `places` with this text.
+#[tactic(auto, unfolding(crate::specs::Commands::places_of))]
 fn places_command<'t>(text: &[u8]) -> Command<'t>
     ensures { told result ≡ places_of text.now }
 {
@@ -98,11 +82,11 @@ pub fn command_of(line: &[u8]) -> Command<'_>
         return Command::Pass;
     }
     let (word, text) = cut(b' ', line);
-    if same(word, b"kind") {
+    if word == b"kind".as_slice() {
         kind_command(text)
-    } else if same(word, b"read") {
+    } else if word == b"read".as_slice() {
         Command::Read(text)
-    } else if same(word, b"places") {
+    } else if word == b"places".as_slice() {
         places_command(text)
     } else {
         Command::Unknown

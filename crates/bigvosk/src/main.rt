@@ -2,7 +2,6 @@
 #![tactic(auto)]
 
 mod answer;
-mod bytes;
 mod cut;
 mod line;
 mod numbers;
@@ -12,22 +11,21 @@ mod reading;
 mod window;
 mod work;
 
-ghost use Rattle.std.specs.Prelude.{◌≡◌, IfOk};
+ghost use Rattle.std.specs.Prelude.{◌≡◌, OnOk};
 ghost use Rattle.bigvosk.specs.Scripts.{kind_after, lines_of};
 
-use line::KindName;
 use std::io::Read;
 use std::{env, fs, io};
-use work::work_script;
+use work::Session;
 
-/// Works a script and prints what it prints. Gives the kind of labels after it.
-fn print_script(rt: &HostRuntime, kind: KindName, script: &[u8]) -> io::Result<KindName>
-    ensures { IfOk result (λ k. k ≡ kind_after kind (lines_of script.now)) }
+/// Works a script and prints what it prints.
+fn print_script(rt: &HostRuntime, session: &mut Session, script: &[u8]) -> io::Result<()>
+    ensures { OnOk result (session.new.kind ≡ kind_after session.old.kind (lines_of script.now)) }
 {
-    let mut out = Vec::new(rt.alloc());
-    let kind = work_script(rt.alloc(), &mut out, kind, script)?;
-    rt.write_all(out.as_slice())?;
-    Ok(kind)
+    session.work_script(script)?;
+    rt.write_all(session.out.as_slice())?;
+    session.out.clear();
+    Ok(())
 }
 
 /// The bytes of a file, or a message.
@@ -48,18 +46,15 @@ fn input_bytes(rt: &HostRuntime) -> io::Result<Vec<u8>> {
 
 /// Works the files that are named as arguments, or standard input where there are none.
 fn main(rt: HostRuntime) -> io::Result<()> {
-    let mut kind = KindName::Words;
-    let mut paths = env::args(&rt)?;
-    let _program = paths.next();
-    let mut named = false;
-    for path in paths {
-        named = true;
-        let script = file_bytes(&rt, path.as_str())?;
-        kind = print_script(&rt, kind, script.as_slice())?;
-    }
-    if !named {
+    let mut session = Session::new(rt.alloc());
+    let mut paths = env::args(&rt)?.skip(1).peekable();
+    if paths.peek().is_none() {
         let script = input_bytes(&rt)?;
-        print_script(&rt, kind, script.as_slice())?;
+        return print_script(&rt, &mut session, script.as_slice());
+    }
+    for path in paths {
+        let script = file_bytes(&rt, path.as_str())?;
+        print_script(&rt, &mut session, script.as_slice())?;
     }
     Ok(())
 }

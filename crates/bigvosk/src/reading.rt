@@ -2,14 +2,15 @@
 ghost use Rattle.std.specs.Prelude.{◌≡◌};
 ghost use Rattle.bigvosk.specs.Answers.{read_as};
 
-use crate::line::KindName;
 use fault::Fault;
 use grammar::read::read;
 use grammar::sheet::Sheet;
+use label::named::KindName;
 use label::word::WordLabel;
 use label::word_or_number::WordOrNumber;
 
 /// Reads a hang and changes nothing: what it holds, or its fault.
+#[tactic(auto, unfolding(crate::specs::Answers::read_as))]
 pub fn read_as(kind: KindName, text: &[u8]) -> Result<Sheet, Fault>
     ensures { result ≡ read_as kind text.now }
 {

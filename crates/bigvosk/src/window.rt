@@ -25,19 +25,15 @@ pub fn window_for(place: usize, len: usize) -> Window
 {
     let place = place.min(len);
     let from = place.saturating_sub(BEFORE);
-    let to = if len - from > WIDTH {
-        from + WIDTH
-    } else {
-        len
-    };
     Window {
         from,
-        to,
+        to: from.saturating_add(WIDTH).min(len),
         caret: place - from,
     }
 }
 
 /// The part of a text that is shown for a place, and how many of its bytes are before the place.
+#[tactic(auto, using(crate::proofs::Pointing::caret_under))]
 pub fn part_for(text: &[u8], place: usize) -> (&[u8], usize)
     ensures part { result.0.now ≡ part_of (window_of place (length text.now)) text.now }
     ensures caret { result.1 ≡ (window_of place (length text.now)).caret }
@@ -51,5 +47,8 @@ pub fn part_for(text: &[u8], place: usize) -> (&[u8], usize)
 pub fn shown(b: u8) -> u8
     ensures { result ≡ shown_byte b }
 {
-    if b >= 32 && b <= 126 { b } else { b'?' }
+    match b {
+        32..=126 => b,
+        _ => b'?',
+    }
 }

@@ -1,62 +1,82 @@
 //! Working the lines of a script, one after another.
-ghost use Rattle.std.specs.Prelude.{◌≡◌, ◌++◌, IfOk, OnOk};
+ghost use Rattle.std.specs.Prelude.{◌≡◌, [], ◌++◌, OnOk};
+ghost use Rattle.bigvosk.specs.Answers.{answer_to};
+ghost use Rattle.label.specs.declared.named.KindName.TheVariants.{Words};
 ghost use Rattle.bigvosk.specs.Commands.{command_of, told};
 ghost use Rattle.bigvosk.specs.Scripts.{Lines, kind_after, lines_of, next_kind, printed, transcript};
 
-use crate::answer::add_answer;
-use crate::bytes::add;
+use crate::answer::write_outcome;
 use crate::cut::cut;
-use crate::line::{Command, KindName, command_of};
-use std::alloc::{AllocError, Global};
+use crate::line::{Command, command_of};
+use crate::places::write_places;
+use crate::reading::read_as;
+use label::named::KindName;
+use std::alloc::Global;
+use std::io::{self, Write};
 
-/// The kind of labels after a command.
-fn kind_past(kind: KindName, command: Command<'_>) -> KindName
-    ensures { result ≡ next_kind kind (told command.entry) }
-{
-    match command {
-        Command::Kind(chosen) => chosen,
-        _ => kind,
-    }
+/// What is at work: the kind of labels that the commands so far have chosen, and what they have printed.
+#[derive(Drop)]
+pub struct Session {
+    pub kind: KindName,
+    pub out: Vec<u8>,
 }
 
-/// Adds what a line prints, and gives the kind of labels after it.
-pub fn work_line(
-    heap: Global,
-    out: &mut Vec<u8>,
-    kind: KindName,
-    line: &[u8],
-) -> Result<KindName, AllocError>
-    ensures kind { IfOk result (λ k. k ≡ next_kind kind (command_of line.now)) }
-    ensures print { OnOk result (out.new.items ≡ out.old.items ++ printed kind line.now) }
-{
-    let command = command_of(line);
-    if let Command::Pass = command {
-        return Ok(kind);
+impl Session {
+    /// Nothing is printed yet, and labels are words.
+    pub fn new(heap: Global) -> Session
+        ensures kind { result.kind ≡ Words }
+        ensures out { result.out.items ≡ [] }
+    {
+        Session {
+            kind: KindName::Words,
+            out: Vec::new(heap),
+        }
     }
-    add(out, b"> ")?;
-    add(out, line)?;
-    add(out, b"\n")?;
-    add_answer(heap, out, kind, command)?;
-    Ok(kind_past(kind, command))
-}
 
-/// Adds what a whole script prints, and gives the kind of labels after it.
-pub fn work_script(
-    heap: Global,
-    out: &mut Vec<u8>,
-    kind: KindName,
-    script: &[u8],
-) -> Result<KindName, AllocError>
-    ensures kind { IfOk result (λ k. k ≡ kind_after kind (lines_of script.now)) }
-    ensures print { OnOk result (out.new.items ≡ out.old.items ++ transcript kind (lines_of script.now)) }
-    ensures lines { Lines script.now (lines_of script.now) }
-{
-    let mut current = kind;
-    let mut rest = script;
-    while rest.len() > 0 {
-        let (line, after) = cut(b'\n', rest);
-        current = work_line(heap, out, current, line)?;
-        rest = after;
+    /// Obeys a command: prints its answer, and goes on with the kind of labels that it chooses.
+    fn obey(&mut self, command: Command<'_>) -> io::Result<()>
+        ensures kind { OnOk result (self.new.kind ≡ next_kind self.old.kind (told command.entry)) }
+        ensures print { OnOk result (self.new.out.items ≡ self.old.out.items ++ answer_to self.old.kind (told command.entry)) }
+    {
+        let out = &mut self.out;
+        match command {
+            Command::Pass => Ok(()),
+            Command::Kind(kind) => {
+                self.kind = kind;
+                writeln!(out, "done")
+            }
+            Command::Read(text) => write_outcome(out, read_as(self.kind, text), text),
+            Command::Places(n, order) => write_places(out, n, order),
+            Command::Unknown => writeln!(out, "unknown command"),
+        }
     }
-    Ok(current)
+
+    /// Works a line: prints the line and the answer to its command, unless there is nothing to do.
+    #[tactic(auto, unfolding(crate::specs::Scripts::printed))]
+    pub fn work_line(&mut self, line: &[u8]) -> io::Result<()>
+        ensures kind { OnOk result (self.new.kind ≡ next_kind self.old.kind (command_of line.now)) }
+        ensures print { OnOk result (self.new.out.items ≡ self.old.out.items ++ printed self.old.kind line.now) }
+    {
+        let command = command_of(line);
+        if matches!(command, Command::Pass) {
+            return Ok(());
+        }
+        write!(self.out, "> ")?;
+        self.out.extend_from_slice(line)?;
+        writeln!(self.out)?;
+        self.obey(command)
+    }
+
+    /// Works a whole script.
+    #[tactic(auto, using(crate::proofs::Working::kind_end, crate::proofs::Working::print_end, crate::proofs::Lining::lines_stand))]
+    pub fn work_script(&mut self, script: &[u8]) -> io::Result<()>
+        ensures kind { OnOk result (self.new.kind ≡ kind_after self.old.kind (lines_of script.now)) }
+        ensures print { OnOk result (self.new.out.items ≡ self.old.out.items ++ transcript self.old.kind (lines_of script.now)) }
+        ensures lines { Lines script.now (lines_of script.now) }
+    {
+        for line in script.split_inclusive(|b| *b == b'\n') {
+            self.work_line(line.strip_suffix(b"\n").unwrap_or(line))?;
+        }
+        Ok(())
+    }
 }

@@ -9,7 +9,7 @@ use Rattle.text.specs.declared.packed.Name.{Name}
 use Rattle.grammar.specs.Reading.{hang_events}
 use Rattle.grammar.specs.Laws.{fault_of}
 use Rattle.plan.specs.Model.{Model, struck}
-use Rattle.plan.specs.Sound.{ascending, atoms_of, count, distinct, each, leads, port_links, registered, rows}
+use Rattle.plan.specs.Sound.{ascending, atoms_of, count, distinct, leads, port_links, registered, rows}
 use Rattle.placing.specs.Answer.{hung_text, unless_fault}
 use Rattle.placing.specs.Counts.{cells_in, label_count, labels_in}
 use Rattle.placing.specs.Keeps.{SoundModel}
@@ -72,7 +72,7 @@ module _ {L : Type 0} (k : Kind L) where
   cells_more t (u ∷ ts) = let ih = cells_more t ts in omega arith
 
   pub struck_sound : SoundModel k struck
-  unfolding ascending count distinct each leads port_links registered rows
+  unfolding ascending count distinct leads port_links registered rows
   struck_sound =
       record { root = refl; depth = refl; sets = refl; labels = refl; homes = refl; ports = refl; links = refl; pairs = refl; names = refl; apart = refl; register = refl }
 

@@ -1,4 +1,5 @@
 -- A call on a plan that calls made leaves the plan that these make with it.
+use Rattle.sameness.proofs.Sounding.{atoms_by}
 use Rattle.std.proofs.Common.{◌≡◌, ℕ, zero, suc, ◌<◌, ◌≤◌, min, Bool, true, false, cond, ◌&&◌, eqb, leb, List, [], ◌∷◌, ◌++◌, map, length, take, is_some, is_ok, Some, None, Ok, Err, Option, Result, sym, refl, ap, ◌∙◌, subst, arith, MatchResult}
 use mathlib.Core.Bool.{false≢true}
 use lib.ListN.{length-map}
@@ -12,8 +13,8 @@ use Rattle.grammar.specs.Laws.{fault_of}
 use Rattle.plan.specs.declared.tables.Cell.{Cell}
 use Rattle.plan.specs.declared.tables.FreeLink.{FreeLink}
 use Rattle.plan.specs.declared.tables.Plan.{Plan}
-use Rattle.plan.specs.Model.{Model, Node, SameTables, Tables, model_of, node_of, strike_answer, struck, tables_of}
-use Rattle.plan.specs.Sound.{Sound, alike, atom_limit, atoms_of, cell_limit, free_limit, is_root, label_limit, room}
+use Rattle.plan.specs.Model.{Model, SameTables, Tables, model_of, node_of, strike_answer, struck, tables_of}
+use Rattle.plan.specs.Sound.{Sound, atom_limit, atoms_of, cell_limit, free_limit, is_root, label_limit, room}
 use Rattle.plan.specs.Tests.{tables_test}
 use Rattle.plan.proofs.Deciding.{decided}
 use Rattle.placing.specs.Answer.{hang_answer, hung_text, unless_fault}
@@ -94,11 +95,6 @@ open_renamed f n (x ∷ free) =
     let ih = open_renamed f n free in
     elim (eqb x.name.packed n.packed) as (λ v. is_some (cond v (Some (f x.link)) (open_link n (map (free_by f) free))) ≡ is_some (cond v (Some x.link) (open_link n free))) [ true ↦ refl | false ↦ ih ]
 
-atoms_renamed : {L : Type 0} (k : Kind L) (f : ℕ → ℕ) (x : L) (atoms : List (Node L)) → atoms_of k x (map (node_by f) atoms) ≡ atoms_of k x atoms
-unfolding atoms_of
-atoms_renamed k f x [] = refl
-atoms_renamed k f x (a ∷ atoms) = ap (λ n. cond (alike k x a.label) (suc n) n) (atoms_renamed k f x atoms)
-
 within_renamed : {L : Type 0} (l : Limits) (f : ℕ → ℕ) (m : Model L) → within l (renamed_by f m) ≡ within l m
 within_renamed l f m =
     ap (λ n. leb n l.atoms && (leb (length m.cells) l.cells && (leb (length (map (free_by f) m.free)) l.free && leb (length m.register) l.labels))) (length-map m.atoms (node_by f))
@@ -115,7 +111,7 @@ laws_renamed {L} k l m n ts r s h =
       sound = s;
       fits = within_same l m n r ∙ h.fits;
       open_names = λ x. ap (λ (o : Model L). is_open x o.free) r.same ∙ open_renamed f x m.free ∙ h.open_names x;
-      labels = λ x. ap (λ (o : Model L). atoms_of k x o.atoms) r.same ∙ atoms_renamed k f x m.atoms ∙ h.labels x;
+      labels = λ x. ap (λ (o : Model L). atoms_of k x o.atoms) r.same ∙ atoms_by k f x m.atoms ∙ h.labels x;
       atom_number = ap (λ (o : Model L). length o.atoms) r.same ∙ length-map m.atoms (node_by f) ∙ h.atom_number;
       cell_number = ap (λ (o : Model L). length o.cells) r.same ∙ h.cell_number;
     }

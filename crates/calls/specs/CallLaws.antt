@@ -8,7 +8,7 @@ use Rattle.plan.specs.Sound.{atom_limit, atoms_of, cell_limit, count, free_limit
 use Rattle.placing.specs.Counts.{cells_in, label_count, labels_in}
 use Rattle.placing.specs.Keeps.{SoundModel}
 use Rattle.placing.specs.Laws.{is_open}
-use Rattle.placing.specs.Orderly.{name_standings}
+use Rattle.grammar.specs.Events.{name_standings}
 use Rattle.calls.specs.Calls.{Call, strike, Limits, after, answer, answers, made, next, texts, within}
 
 -- limits of tables in which a plan can be struck

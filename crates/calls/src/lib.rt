@@ -8,15 +8,11 @@ use label::kind::Label;
 
 /// What holds after every list of calls on a struck plan: it is sound and in its limits, which names are open,
 /// and how many atoms of each label there are.
-pub fn calls_stand<L: Label>() -> u8
+pub fn calls_stand<L: Label>()
     ensures { AfterLaw L.kind }
-{
-    0
-}
+{}
 
 /// What holds of a plan that a list of calls made, in terms of the texts that were accepted since the last strike.
-pub fn made_stands<L: Label>() -> u8
+pub fn made_stands<L: Label>()
     ensures { MadeLaw L.kind }
-{
-    0
-}
+{}

@@ -15,7 +15,7 @@ use Rattle.plan.specs.declared.tables.Census.{Census}
 use Rattle.plan.specs.Model.{Model, SameTables, Tables, model_of, strike_answer, tables_of}
 use Rattle.desk.specs.declared.desk.Desk.{Desk}
 use Rattle.desk.specs.declared.desk.Rows.{Rows}
-use Rattle.desk.specs.Held.{Held, Ready, after_call, held, nothing, on_desk, tabled}
+use Rattle.desk.specs.Held.{Ready, after_call, held, on_desk, tabled}
 
 -- tables by their parts
 pub same_tables : {L : Type 0} (a a' : List (Atom L)) (c c' : List Cell) (f f' : List FreeLink) (r r' : List (Census L)) (n n' : Rows) →
@@ -38,16 +38,6 @@ module _ {L : Type 0} (d : Desk L) (a : List (Atom L)) (c : List Cell) (f : List
       on_desk (record { atoms = with_items d.atoms a'; cells = with_items d.cells c'; free = with_items d.free f'; register = with_items d.register r'; counts = n }) ≡ tabled a' c' f' r' n
   back a' c' f' r' n la lc lf lr =
       same_tables _ a' _ c' _ f' _ r' n n (came_back d.atoms a a' ea la) (came_back d.cells c c' ec lc) (came_back d.free f f' ef lf) (came_back d.register r r' er lr) refl
-
--- a desk of which no row counts
-pub blank_held : {L : Type 0} (d : Desk L) (rows : Rows) → d.atoms.len ≡ rows.atoms → d.cells.len ≡ rows.cells → d.free.len ≡ rows.free → d.register.len ≡ rows.labels →
-    d.counts ≡ record { atoms = 0; cells = 0; free = 0; labels = 0 } → held (on_desk d) ≡ record { rows = rows; model = nothing }
-blank_held d rows a c f r e =
-    let la : length d.atoms.items ≡ rows.atoms = sym d.atoms.ok.0 ∙ a in
-    let lc : length d.cells.items ≡ rows.cells = sym d.cells.ok.0 ∙ c in
-    let lf : length d.free.items ≡ rows.free = sym d.free.ok.0 ∙ f in
-    let lr : length d.register.items ≡ rows.labels = sym d.register.ok.0 ∙ r in
-    rw (la, lc, lf, lr, e) refl
 
 same_rows : {L : Type 0} (p q : Plan L) → SameTables p q → (held (tables_of q)).rows ≡ (held (tables_of p)).rows
 same_rows p q s = rw (s.atom_rows, s.cell_rows, s.free_rows, s.label_rows) refl
@@ -87,9 +77,12 @@ module _ {L : Type 0} {k : Kind L} {p q : Plan L} {r : Result (Unit {0}) Fault} 
   pub strike_ready : r ≡ strike_answer p → Ready k t
   strike_ready w = call_ready (unstruck k p r w)
 
--- tables in place of equal ones
-pub held_in : {L : Type 0} (t t' u u' : Tables L) (f : Held L → Held L) → t ≡ t' → u ≡ u' → held t' ≡ f (held u') → held t ≡ f (held u)
-held_in t t' u u' f e d h = ap held e ∙ h ∙ ap (λ x. f (held x)) (sym d)
+-- a call that leaves a plan as it was leaves its tables
+pub unmoved : {L : Type 0} (p q : Plan L) → q ≡ p → SameTables p q
+unmoved {L} p q e =
+    let Is : Plan L → Type 0 = λ x. SameTables p x in
+    subst Is (sym e) (record { atoms = refl; atom_rows = refl; cells = refl; cell_rows = refl; free = refl; free_rows = refl; register = refl; label_rows = refl })
 
+-- tables in place of equal ones
 pub ready_in : {L : Type 0} (k : Kind L) (t t' : Tables L) → t ≡ t' → Ready k t' → Ready k t
 ready_in {L} k t t' e h = let P : Tables L → Type 0 = λ x. Ready k x in subst P (sym e) h

@@ -7,8 +7,8 @@ use Rattle.label.specs.WordKind.{word_kind}
 use Rattle.label.specs.WordOrNumberKind.{mixed_kind}
 use Rattle.showing.specs.Shown.{shown}
 use Rattle.desk.specs.declared.desk.Rows.{Rows}
-use Rattle.desk.specs.declared.either.KindName.{KindName}
-use Rattle.desk.specs.declared.either.KindName.TheVariants as kinds
+use Rattle.label.specs.declared.named.KindName.{KindName}
+use Rattle.label.specs.declared.named.KindName.TheVariants as kinds
 use Rattle.desk.specs.declared.either.EitherDesk.{EitherDesk}
 use Rattle.desk.specs.declared.either.EitherDesk.TheVariants as desks
 use Rattle.desk.specs.Held.{Held, Ready, after_strike, held, nothing, on_desk, strike_told}

@@ -2,12 +2,14 @@
 ghost use Rattle.std.specs.Prelude.{◌≡◌, length, IfOk};
 ghost use Rattle.showing.specs.Shown.{shown};
 ghost use Rattle.desk.specs.Calls.{after_hang, hang_told, show_told, shown_over};
+ghost use Rattle.desk.specs.Lent.{Lent};
 ghost use Rattle.desk.specs.Held.{Ready, after_strike, held, nothing, on_desk, strike_told};
 
-use crate::lent::{hang_tables, show_tables, strike_tables};
+use crate::lent::lend;
+use engine::{hang, show, strike};
 use fault::Fault;
 use label::kind::Label;
-use plan::tables::{Atom, Cell, Census, FreeLink};
+use plan::tables::{Atom, Cell, Census, FreeLink, Plan};
 use std::alloc::{AllocError, Global};
 use text::packed::Name;
 
@@ -21,6 +23,7 @@ pub struct Rows {
 }
 
 /// The tables of a plan, and how many rows of each count.
+// A plan's tables are lent with all their rows, so the counts stand beside them.
 #[derive(Drop)]
 pub struct Desk<L> {
     pub atoms: Vec<Atom<L>>,
@@ -31,19 +34,28 @@ pub struct Desk<L> {
 }
 
 impl<L: Label> Desk<L> {
+    /// Lends the tables, as a plan, to a call.
+    fn lend<R, F: FnMut(&mut Plan<'_, L>) -> R>(&mut self, call: &mut F) -> R
+        requires { F.IsAlwaysCallable call.old }
+        ensures { Lent F.FnMut call.old (on_desk self.old) result (on_desk self.new) call.new }
+    {
+        lend(
+            self.atoms.as_mut_slice(),
+            self.cells.as_mut_slice(),
+            self.free.as_mut_slice(),
+            self.register.as_mut_slice(),
+            &mut self.counts,
+            call,
+        )
+    }
+
     /// Strikes the plan.
     pub fn strike(&mut self) -> Result<(), Fault>
         ensures answer { result ≡ strike_told (held (on_desk self.old)) }
         ensures after { held (on_desk self.new) ≡ after_strike (held (on_desk self.old)) }
         ensures ready { Ready L.Label.kind (on_desk self.new) }
     {
-        strike_tables(
-            self.atoms.as_mut_slice(),
-            self.cells.as_mut_slice(),
-            self.free.as_mut_slice(),
-            self.register.as_mut_slice(),
-            &mut self.counts,
-        )
+        self.lend(&mut strike)
     }
 
     /// Hangs a text on the plan.
@@ -53,14 +65,7 @@ impl<L: Label> Desk<L> {
         ensures after { held (on_desk self.new) ≡ after_hang L.Label.kind text.now (held (on_desk self.old)) }
         ensures ready { Ready L.Label.kind (on_desk self.new) }
     {
-        hang_tables(
-            self.atoms.as_mut_slice(),
-            self.cells.as_mut_slice(),
-            self.free.as_mut_slice(),
-            self.register.as_mut_slice(),
-            &mut self.counts,
-            text,
-        )
+        self.lend(&mut |plan| hang(plan, text))
     }
 
     /// Shows the plan: writes its text to the front of `out`, and gives how many bytes it has.
@@ -70,15 +75,7 @@ impl<L: Label> Desk<L> {
         ensures text { out.new ≡ shown_over result (shown L.Label.kind (held (on_desk self.old)).model) out.old }
         ensures same { on_desk self.new ≡ on_desk self.old }
     {
-        let counts = self.counts;
-        show_tables(
-            self.atoms.as_mut_slice(),
-            self.cells.as_mut_slice(),
-            self.free.as_mut_slice(),
-            self.register.as_mut_slice(),
-            counts,
-            out,
-        )
+        self.lend(&mut |plan| show(plan, out))
     }
 
     /// How many rows each table has.

@@ -5,18 +5,10 @@ ghost use Rattle.desk.specs.Either.{Prepared, hang_answered, kind_in, past_hang,
 
 use crate::desk::{Desk, Rows, blank};
 use fault::Fault;
+use label::named::KindName;
 use label::word::WordLabel;
 use label::word_or_number::WordOrNumber;
 use std::alloc::{AllocError, Global};
-
-/// The kinds of labels.
-#[derive(Clone, Copy, PartialEq, Eq, Debug)]
-pub enum KindName {
-    /// Words only.
-    Words,
-    /// Words and numbers.
-    Numbers,
-}
 
 /// A desk with the kind of its labels.
 #[derive(Drop)]
@@ -25,6 +17,7 @@ pub enum EitherDesk {
     Numbers(Desk<WordOrNumber>),
 }
 
+// Each method is a `match`: the two desks have different types, and a closure takes one type only.
 impl EitherDesk {
     /// A desk with tables of so many rows, none of which counts.
     pub fn new(heap: Global, kind: KindName, rows: Rows) -> Result<EitherDesk, AllocError>

@@ -1,22 +1,20 @@
 //! Lists of calls, and what the plan shows after them.
 use engine::{hang, show, strike};
+use fault::Fault;
 use label::word::WordLabel;
 use plan::tables::{Atom, Cell, Census, FreeLink, Plan};
 use text::packed::Name;
 
 /// Whether a text stands at the front of a buffer, and only untouched bytes after it.
 fn holds(out: &[u8], text: &[u8]) -> bool {
-    for (i, byte) in out.iter().enumerate() {
-        let wanted = if i < text.len() { text[i] } else { b'#' };
-        if *byte != wanted {
-            return false;
-        }
+    match out.strip_prefix(text) {
+        Some(rest) => rest.iter().all(|byte| *byte == b'#'),
+        None => false,
     }
-    text.len() <= out.len()
 }
 
 /// Whether a plan with four rows in each table shows a text, after a strike and then two texts.
-fn shows(first: &[u8], second: &[u8], text: &[u8]) -> bool {
+fn shows(first: &[u8], second: &[u8], text: &[u8]) -> Result<bool, Fault> {
     let mut atoms = [Atom {
         label: WordLabel(0),
         cell: 9,
@@ -45,36 +43,43 @@ fn shows(first: &[u8], second: &[u8], text: &[u8]) -> bool {
         register: &mut register,
         label_count: 9,
     };
-    let struck = strike::<WordLabel>(&mut plan).is_ok();
-    let hung = hang::<WordLabel>(&mut plan, first).is_ok()
-        && hang::<WordLabel>(&mut plan, second).is_ok();
+    strike(&mut plan)?;
+    hang(&mut plan, first)?;
+    hang(&mut plan, second)?;
     let mut out = [b'#'; 32];
-    match show::<WordLabel>(&plan, &mut out) {
-        Ok(n) => struck && hung && n == text.len() && holds(&out, text),
-        Err(_) => false,
-    }
+    let length = show(&plan, &mut out)?;
+    Ok(length == text.len() && holds(&out, text))
 }
 
 #[test]
 fn nothing_hung(rt: HostRuntime) {
-    assert!(rt; shows(b"", b"", b""));
+    assert_eq!(rt; shows(b"", b"", b"").ok(), Some(true));
 }
 
 #[test]
 fn open_names(rt: HostRuntime) {
-    assert!(rt; shows(b"a(X)", b"b(X)", b"a(_0),b(_0)"));
-    assert!(rt; shows(b"a(X),b(X)", b"c(X)", b"a(_0),b(_0),c(X)"));
+    assert_eq!(rt; shows(b"a(X)", b"b(X)", b"a(_0),b(_0)").ok(), Some(true));
+    assert_eq!(rt;
+        shows(b"a(X),b(X)", b"c(X)", b"a(_0),b(_0),c(X)").ok(),
+        Some(true)
+    );
 }
 
 #[test]
 fn connectors(rt: HostRuntime) {
-    assert!(rt; shows(b"X=Y", b"", b"X=Y"));
-    assert!(rt; shows(b"X=Y", b"Y=X", b""));
-    assert!(rt; shows(b"X=X", b"", b""));
-    assert!(rt; shows(b"a(_p),_p=_q,_q=_r,b(_r)", b"", b"a(_0),b(_0)"));
+    assert_eq!(rt; shows(b"X=Y", b"", b"X=Y").ok(), Some(true));
+    assert_eq!(rt; shows(b"X=Y", b"Y=X", b"").ok(), Some(true));
+    assert_eq!(rt; shows(b"X=X", b"", b"").ok(), Some(true));
+    assert_eq!(rt;
+        shows(b"a(_p),_p=_q,_q=_r,b(_r)", b"", b"a(_0),b(_0)").ok(),
+        Some(true)
+    );
 }
 
 #[test]
 fn cells(rt: HostRuntime) {
-    assert!(rt; shows(b"a(A,B),{@3,b(_x,_x)},A=C", b"", b"a(C,B),{@3,b(_0,_0)}"));
+    assert_eq!(rt;
+        shows(b"a(A,B),{@3,b(_x,_x)},A=C", b"", b"a(C,B),{@3,b(_0,_0)}").ok(),
+        Some(true)
+    );
 }

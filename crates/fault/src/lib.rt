@@ -1,11 +1,15 @@
 //! Refusals: what went wrong, and at which place.
 #![tactic(auto)]
 
-ghost use Rattle.std.specs.Prelude.{◌≡◌};
+ghost use Rattle.std.specs.Prelude.{◌≡◌, Some};
 ghost use Rattle.fault.specs.Table.{number_of, layer_of};
+ghost use Rattle.fault.specs.Words.{layer_name, message};
+
+use std::error::Error;
+use std::fmt;
 
 /// What was refused. Two numbers, 8 and 11, stand for two refusals each, one of the grammar and one of the book.
-#[derive(Clone, Copy, Debug)]
+#[derive(Clone, Copy, PartialEq, Eq, Debug)]
 pub enum Refusal {
     /// A text has over 65,535 bytes.
     TextTooLong,
@@ -68,10 +72,31 @@ pub enum Layer {
 }
 
 /// A refusal at its place: the offset of a byte for text and grammar, a rule for book, and 0 for all others.
-#[derive(Clone, Copy, Debug)]
+#[derive(Clone, Copy, PartialEq, Eq, Debug)]
 pub struct Fault {
     pub refusal: Refusal,
     pub place: usize,
+}
+
+impl Refusal {
+    /// The refusal at a place.
+    pub fn at(self, place: usize) -> Fault
+        ensures { result ≡ record { refusal = self; place = place } }
+    {
+        Fault {
+            refusal: self,
+            place,
+        }
+    }
+}
+
+/// A refusal that has no place is at 0.
+impl From<Refusal> for Fault {
+    ghost from_gives = { λ refusal fault. fault ≡ record { refusal = refusal; place = 0 } };
+
+    fn from(refusal: Refusal) -> Fault {
+        refusal.at(0)
+    }
 }
 
 impl Fault {
@@ -131,3 +156,30 @@ impl Fault {
         }
     }
 }
+
+impl fmt::Display for Layer {
+    ghost output = { λ layer. Some (layer_name layer) };
+
+    fn fmt<W: fmt::Write>(&self, f: &mut fmt::Formatter<W>) -> fmt::Result {
+        f.write_str(match self {
+            Layer::Text => "text",
+            Layer::Grammar => "grammar",
+            Layer::Book => "book",
+            Layer::Plan => "plan",
+            Layer::Run => "run",
+        })
+    }
+}
+
+impl fmt::Display for Fault {
+    ghost output = { λ fault. Some (message fault) };
+
+    fn fmt<W: fmt::Write>(&self, f: &mut fmt::Formatter<W>) -> fmt::Result {
+        let number = self.number();
+        let layer = self.layer();
+        let place = self.place;
+        write!(f, "refused {number} {layer} at {place}")
+    }
+}
+
+impl Error for Fault {}

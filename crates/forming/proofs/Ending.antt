@@ -1,4 +1,5 @@
 -- Lists of lists, one row after another.
+use Rattle.std.proofs.lemmas.Option.{slice_get-map}
 use Rattle.std.proofs.Common.{◌≡◌, ℕ, zero, suc, ◌<◌, List, [], ◌∷◌, ◌++◌, map, Some, sym, refl, ◌∙◌, subst, ap₂, arith}
 use Rattle.std.specs.Option.{option_map}
 use Rattle.std.specs.List.{slice_get}
@@ -15,14 +16,9 @@ use Rattle.forming.specs.Joins.{Point, at_row, named, old}
 use Rattle.forming.proofs.Names.{packed_of}
 use Rattle.forming.proofs.Quotient.{base}
 
-nth_map : {A B : Type 0} (f : A → B) (xs : List A) (i : ℕ) → slice_get (map f xs) i ≡ option_map f (slice_get xs i)
-nth_map f [] i = refl
-nth_map f (x ∷ xs) zero = refl
-nth_map f (x ∷ xs) (suc i) = nth_map f xs i
-
 pub at_row_map : {A B : Type 0} (f : A → B) (xss : List (List A)) (i j : ℕ) → at_row j (slice_get (map (map f) xss) i) ≡ option_map f (at_row j (slice_get xss i))
 at_row_map f [] i j = refl
-at_row_map f (xs ∷ xss) zero j = nth_map f xs j
+at_row_map f (xs ∷ xss) zero j = slice_get-map f xs j
 at_row_map f (xs ∷ xss) (suc i) j = at_row_map f xss i j
 
 -- what holds of each

@@ -15,7 +15,8 @@ use Rattle.grammar.specs.Form.{Items, item_tokens}
 use Rattle.plan.specs.declared.tables.Cell.{Cell}
 use Rattle.plan.specs.declared.tables.FreeLink.{FreeLink}
 use Rattle.plan.specs.Model.{Model}
-use Rattle.plan.specs.Sound.{count, each, ends, is_root, port_links, rows}
+use Rattle.std.specs.List.{list_all}
+use Rattle.plan.specs.Sound.{count, ends, is_root, port_links, rows}
 use Rattle.placing.specs.Answer.{hung_text}
 use Rattle.placing.specs.Keeps.{OfText, SoundModel}
 use Rattle.placing.specs.Links.{free_after, open_link, unused}
@@ -42,11 +43,10 @@ unfolding open_link count
 open_counts n [] x e = absurd (let z : ◌≡◌ {A = ℕ} 0 1 = cc in omega arith)
 open_counts n (f ∷ fs) x e = let ih = open_counts n fs x in grind (arith, nat_tests)
 
-getD_below : (m : ℕ) (xs : List ℕ) (i d : ℕ) → each (λ x. ltb x m) xs ≡ true → i < length xs → get_or xs i d < m
-unfolding each
+getD_below : (m : ℕ) (xs : List ℕ) (i d : ℕ) → list_all (λ x. ltb x m) xs ≡ true → i < length xs → get_or xs i d < m
 getD_below m [] i d h l = absurd (omega arith)
-getD_below m (x ∷ xs) zero d h l = ltb-true x m (and_parts (ltb x m) (each (λ y. ltb y m) xs) h).0
-getD_below m (x ∷ xs) (suc i) d h l = getD_below m xs i d (and_parts (ltb x m) (each (λ y. ltb y m) xs) h).1 (omega arith)
+getD_below m (x ∷ xs) zero d h l = ltb-true x m (and_parts (ltb x m) (list_all (λ y. ltb y m) xs) h).0
+getD_below m (x ∷ xs) (suc i) d h l = getD_below m xs i d (and_parts (ltb x m) (list_all (λ y. ltb y m) xs) h).1 (omega arith)
 
 pub rooted : (cs : List Cell) → is_root cs ≡ true → 0 < length cs
 rooted [] h = absurd (let z : ◌≡◌ {A = ℕ} 0 1 = cc in omega arith)

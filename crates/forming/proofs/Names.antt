@@ -13,7 +13,7 @@ use Rattle.grammar.specs.Laws.{fault_of}
 use Rattle.grammar.specs.Sheets.{text_names}
 use Rattle.grammar.specs.Form.{Items, Written, none, atom, cell, connector, set, label_token}
 use Rattle.plan.specs.Sound.{count}
-use Rattle.placing.specs.Orderly.{name_standings}
+use Rattle.grammar.specs.Events.{name_standings}
 use Rattle.placing.proofs.KeepEach.{count_append}
 use Rattle.placing.proofs.NamesOf.{names_right}
 use Rattle.forming.specs.Events.{FormOf, followed, given, item_events}

@@ -8,7 +8,8 @@ use Rattle.grammar.specs.declared.event.Event.TheVariants as events
 use Rattle.grammar.specs.Tests.{label_read, set_of}
 use Rattle.grammar.specs.Reading.{Events, event, labelled, setting}
 use Rattle.grammar.specs.Form.{Items, none, atom, cell, connector, set, label_token}
-use Rattle.placing.specs.Orderly.{depth_after, halfway, may_come, orderly, ports_after}
+use Rattle.grammar.specs.Events.{depth_after}
+use Rattle.placing.specs.Orderly.{halfway, may_come, orderly, ports_after}
 use Rattle.forming.specs.Events.{followed, given, item_events}
 use Rattle.forming.specs.Places.{direct_set, set_or}
 use Rattle.forming.proofs.Reading.{followed_append}

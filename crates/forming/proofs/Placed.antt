@@ -1,5 +1,6 @@
 -- The plan after a text, by its form.
-use Rattle.std.proofs.Common.{◌≡◌, ℕ, ◌<◌, Bool, false, cond, not, ◌&&◌, eqb, List, [], ◌∷◌, ◌++◌, map, length, get_or, None, filter, sym, refl, ap, ◌∙◌, ap₂, append-nil, arith}
+use Rattle.std.proofs.lemmas.List.Elements.{filter_agree}
+use Rattle.std.proofs.Common.{◌≡◌, ℕ, ◌<◌, false, not, ◌&&◌, eqb, List, [], ◌∷◌, ◌++◌, map, length, get_or, None, filter, sym, refl, ap, ◌∙◌, ap₂, append-nil, arith}
 use lib.ListN as lists
 use lib.Seq.{set-get_or}
 use Rattle.std.proofs.lemmas.List.{map-append}
@@ -14,7 +15,8 @@ use Rattle.plan.specs.Model.{Model}
 use Rattle.plan.specs.Sound.{count, link_limit, no_cell, rows}
 use Rattle.placing.specs.Answer.{hung_text}
 use Rattle.placing.specs.Laws.{is_open, stands_once}
-use Rattle.placing.specs.Orderly.{name_standings, orderly}
+use Rattle.grammar.specs.Events.{name_standings}
+use Rattle.placing.specs.Orderly.{orderly}
 use Rattle.placing.specs.Placing.{become, begun, place_all, relinked}
 use Rattle.placing.proofs.HangLaws.{hang_laws}
 use Rattle.placing.proofs.NamesOf.{names_right}
@@ -30,10 +32,6 @@ use Rattle.forming.proofs.Table.{names_told, says_all, says_none, token_names}
 relinked_nodes : {L : Type 0} (b : List ℕ) (link : Name → ℕ) (xs : List (AtomText L)) → map (relinked b) (map (node link) xs) ≡ map (node (λ n. become b (link n))) xs
 relinked_nodes b link [] = refl
 relinked_nodes b link (a ∷ xs) = ap₂ (λ ls rest. record { label = a.label; cell = a.cell; links = ls } ∷ rest) (map-map (become b) link a.names) (relinked_nodes b link xs)
-
-kept_alike : (p q : Name → Bool) (ns : List Name) → ((n : Name) → p n ≡ q n) → filter p ns ≡ filter q ns
-kept_alike p q [] h = refl
-kept_alike p q (n ∷ ns) h = ap₂ (λ v xs. cond v (n ∷ xs) xs) (h n) (kept_alike p q ns h)
 
 module _ {L : Type 0} (k : Kind L) (law : Lawful k) (m : Model L) (bs : List ℕ) (h : Items) (some : 0 < length m.cells) (clean : fault_of (hang_events k 0 bs) ≡ None) (tokens : item_tokens h ≡ text_tokens k bs) where
   pub form_is : FormOf k bs h
@@ -66,7 +64,7 @@ module _ {L : Type 0} (k : Kind L) (law : Lawful k) (m : Model L) (bs : List ℕ
       let says = says_all P (spots (stream k bs)) start [] (says_none P) (λ x. let f = (names_right k bs clean).few x in let e : count x (packed_of (token_names (text_tokens k bs))) ≡ count x (name_standings (hang_events k 0 bs)) = ap (λ ns. count x (packed_of ns)) names_are ∙ ap (count x) (sym standings_are) in omega arith) in
       (hang_laws k law m bs clean).free_names
       ∙ ap₂ ◌++◌
-      (kept_alike (λ n. not (stands_once k m bs n)) (λ n. not (once h n)) (map (λ f. f.name) m.free) (λ n. ap (λ xs. not (eqb (count n.packed xs) 1)) standings_are))
+      (filter_agree (λ n. not (stands_once k m bs n)) (λ n. not (once h n)) (λ n. ap (λ xs. not (eqb (count n.packed xs) 1)) standings_are) (map (λ f. f.name) m.free))
       (says.singly ∙ ap (λ ns. filter (λ n. eqb (count n.packed (packed_of ns)) 1 && P n) ns) names_are)
 
   pub placed : Placed k m bs h

@@ -1,6 +1,7 @@
 -- What links have become by connectors tells which points the connectors join.
+use Rattle.placing.proofs.KeepAbsorb.{length_joined}
+use Rattle.placing.proofs.KeepAbsorb.{become_joined}
 use Rattle.std.proofs.Common.{◌≡◌, ℕ, ◌<◌, true, false, cond, eqb, List, [], ◌∷◌, length, sym, refl, ap, ◌∙◌, inl, inr, ⊎_elim, arith}
-use Rattle.std.proofs.lemmas.List.{get_or-map, length-map}
 use Rattle.std.proofs.lemmas.Bool.{cases_eq, cond-true, cond-false, eq-eqb, ne_eqb}
 use Rattle.text.specs.declared.packed.Name.{Name}
 use Rattle.grammar.specs.Form.{Items}
@@ -8,12 +9,6 @@ use Rattle.plan.specs.Model.{Model}
 use Rattle.placing.specs.Placing.{become, joined, put}
 use Rattle.forming.specs.Places.{joined_by}
 use Rattle.forming.specs.Joins.{Among, Joined, Point, back, named, old, through}
-
-become_joined : (x y : ℕ) (b : List ℕ) (z : ℕ) → z < length b → become (joined x y b) z ≡ put (become b x) (become b y) (become b z)
-become_joined x y b z l = get_or-map (put (become b x) (become b y)) b z z z l
-
-length_joined : (x y : ℕ) (b : List ℕ) → length (joined x y b) ≡ length b
-length_joined x y b = length-map b (put (become b x) (become b y))
 
 put_here : (x y z : ℕ) → z ≡ x → put x y z ≡ y
 put_here x y z e = cond-true (eqb z x) y z (eq-eqb z x e)

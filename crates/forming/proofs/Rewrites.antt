@@ -1,4 +1,5 @@
 -- A rewritten text gives the same plan but for the numbers of links.
+use Rattle.std.proofs.lemmas.List.Elements.{filter_agree}
 use Rattle.std.proofs.Common.{◌≡◌, ℕ, ◌+◌, ◌<◌, ◌≤◌, Bool, true, false, cond, not, ◌&&◌, List, [], ◌∷◌, ◌++◌, map, length, is_some, Some, None, filter, Option, sym, refl, ap, ◌∙◌, ap₂, arith, length-append}
 use Rattle.std.specs.Option.{option_map}
 use Rattle.std.proofs.lemmas.List.Elements.{filter-append}
@@ -85,10 +86,6 @@ module _ (f : Naming) (p q : Name → Bool) (alike : (n : Name) → q (f.to n) �
       turn (f.to a) (f.to b) (written_names g) ∙ step a (b ∷ written_names h) (f.to b ∷ written_names g) (step b (written_names h) (written_names g) (kept_alike r))
   kept_alike (as_set w r) = kept_alike r
 
-kept_same : (p q : Name → Bool) (ns : List Name) → ((n : Name) → p n ≡ q n) → filter p ns ≡ filter q ns
-kept_same p q [] h = refl
-kept_same p q (n ∷ ns) h = ap₂ (λ v xs. cond v (n ∷ xs) xs) (h n) (kept_same p q ns h)
-
 -- the rows of two plans after such texts are as many
 module _ {L : Type 0} (k : Kind L) (m : Model L) (bs cs : List ℕ) (h g : Items) (f : Naming) (r : Rewritten f h g) (keeps : KeepsSingle f h) (first : Placed k m bs h) (second : Placed k m cs g) where
   as_many_atoms : length (hung_text k m cs).atoms ≡ length (hung_text k m bs).atoms
@@ -108,7 +105,7 @@ module _ {L : Type 0} (k : Kind L) (m : Model L) (bs cs : List ℕ) (h g : Items
       let q = λ (n : Name). once g n && not (is_open n m.free) in
       sym (length-map (hung_text k m cs).free (λ x. x.name)) ∙ ap length second.free
       ∙ length-append (filter (λ n. not (once g n)) old) (filter q (written_names g))
-      ∙ ap₂ ◌+◌ (ap length (kept_same (λ n. not (once g n)) (λ n. not (once h n)) old (λ n. ap not (sym (once_same f m r keeps n (once h n) (once g n) refl refl))))) (kept_alike f p q (λ n. opens_alike n (once h n) refl) r)
+      ∙ ap₂ ◌+◌ (ap length (filter_agree (λ n. not (once g n)) (λ n. not (once h n)) (λ n. ap not (sym (once_same f m r keeps n (once h n) (once g n) refl refl))) old)) (kept_alike f p q (λ n. opens_alike n (once h n) refl) r)
       ∙ sym (length-append (filter (λ n. not (once h n)) old) (filter p (written_names h)))
       ∙ sym (ap length first.free) ∙ length-map (hung_text k m bs).free (λ x. x.name)
 

@@ -1,4 +1,6 @@
 -- Rows of tables, by what stands there.
+use Rattle.std.proofs.lemmas.Option.{slice_get_past}
+use Rattle.std.proofs.lemmas.List.{map-id}
 use Rattle.std.proofs.Common.{◌≡◌, ℕ, zero, suc, ◌+◌, ◌<◌, ◌≤◌, true, cond, eqb, List, [], ◌∷◌, map, length, Some, None, Option, sym, refl, ap, ◌∙◌, subst, ⊎_elim, arith}
 use Rattle.std.specs.List.{slice_get}
 use Rattle.std.proofs.lemmas.Bool.{and_parts, cases_eq, cond-true, cond-false, eq-eqb, ne_eqb, eqb-true}
@@ -52,22 +54,13 @@ nth_past [] i e = omega arith
 nth_past (x ∷ xs) zero e = absurd (let z : ◌≡◌ {A = ℕ} 0 1 = cc in omega arith)
 nth_past (x ∷ xs) (suc i) e = let l = nth_past xs i e in omega arith
 
-pub past_nth : {A : Type 0} (xs : List A) (i : ℕ) → length xs ≤ i → slice_get xs i ≡ None
-past_nth [] i l = refl
-past_nth (x ∷ xs) zero l = absurd (omega arith)
-past_nth (x ∷ xs) (suc i) l = past_nth xs i (omega arith)
-
 -- ** lists with the same numbers are as long
-
-map_same : (xs : List ℕ) → map (λ x. x) xs ≡ xs
-map_same [] = refl
-map_same (x ∷ xs) = ap (λ ys. x ∷ ys) (map_same xs)
 
 length_without : (a : ℕ) (s : List ℕ) → length s ≡ count a s + length (without a s)
 length_without a s =
     let e = tally_split (λ x. true) (λ x. x) (λ x. x) a s (λ x d. refl) in
-    let b : tally (λ x. true) (map (λ x. x) s) ≡ length s = ap (tally (λ x. true)) (map_same s) ∙ tally_length s in
-    let c : tally (λ x. true) (map (λ x. x) (without a s)) ≡ length (without a s) = ap (tally (λ x. true)) (map_same (without a s)) ∙ tally_length (without a s) in
+    let b : tally (λ x. true) (map (λ x. x) s) ≡ length s = ap (tally (λ x. true)) (map-id s) ∙ tally_length s in
+    let c : tally (λ x. true) (map (λ x. x) (without a s)) ≡ length (without a s) = ap (tally (λ x. true)) (map-id (without a s)) ∙ tally_length (without a s) in
     omega arith
 
 no_numbers : (ys : List ℕ) → ((x : ℕ) → 0 ≡ count x ys) → length ys ≡ 0
@@ -99,7 +92,7 @@ there xs ys i = sent (slice_get xs i) ys i
 pub there_back : (xs ys : List ℕ) → distinct xs ≡ true → length xs ≡ length ys → ((x : ℕ) → count x xs ≡ count x ys) → (i : ℕ) (o : Option ℕ) → slice_get xs i ≡ o → there ys xs (sent o ys i) ≡ i
 there_back xs ys d l h i None e =
     let p = nth_past xs i e in
-    ap (λ z. sent z xs i) (past_nth ys i (omega arith))
+    ap (λ z. sent z xs i) (slice_get_past ys i (omega arith))
 there_back xs ys d l h i (Some x) e =
     let c = nth_counts xs i x e in
     let k = h x in

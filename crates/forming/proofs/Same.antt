@@ -1,4 +1,10 @@
 -- Plans with the same ends on one link are one plan, but for the numbers of links and the rows of free links.
+use Rattle.placing.proofs.KeepNames.{open_some}
+use Rattle.std.proofs.lemmas.Option.{slice_get_past}
+use Rattle.std.proofs.lemmas.Iterator.Adapters.{option_map_id}
+use Rattle.std.proofs.lemmas.Option.{slice_get-map}
+use Rattle.std.proofs.lemmas.Option.{slice_get_within}
+use Rattle.std.specs.Prelude.{option_map}
 use Rattle.std.proofs.Common.{◌≡◌, ℕ, zero, suc, ◌+◌, ◌<◌, ◌≤◌, Bool, true, false, cond, eqb, List, [], ◌∷◌, ◌++◌, map, length, is_some, Some, None, Option, sym, refl, ap, ◌∙◌, subst, ap₂, inl, inr, ⊎_elim, arith, length-append}
 use Rattle.std.specs.List.{slice_get}
 use Rattle.std.proofs.lemmas.List.{length-map}
@@ -14,12 +20,12 @@ use Rattle.placing.specs.Links.{open_link}
 use Rattle.placing.proofs.KeepEach.{count_append, distinct_once}
 use Rattle.placing.proofs.KeepNames.{free_links, free_names}
 use Rattle.sameness.specs.Renaming.{OneToOne, Stands, free_by}
-use Rattle.sameness.specs.Reordering.{Renumbering, Reordered, atom_by, cell_by, over}
+use Rattle.sameness.specs.Reordering.{Renumbering, Reordered, atom_by, cell_by}
 use Rattle.forming.specs.Joins.{Among, End, at_row, end_link, open_at, port}
 use Rattle.forming.specs.Rewriting.{SameButLinks}
 use Rattle.forming.proofs.Assigned.{same_name}
 use Rattle.forming.proofs.Renaming.{among_left, among_right}
-use Rattle.forming.proofs.Rows.{nth_past, past_nth, renumbering, row, same_length, sent, there}
+use Rattle.forming.proofs.Rows.{nth_past, renumbering, row, same_length, sent, there}
 
 -- ** the ends of a plan
 
@@ -46,15 +52,10 @@ among_grid i (suc k) n a b l h j =
     (λ (d : a ≡ i → ⊥). among_right (port a b) (map (port i) (rows 0 n)) (grid (suc i) k n) (among_grid (suc i) k n a b (omega arith) (omega arith) j))
     (cases_eq a i)
 
-nth_within : {A : Type 0} (xs : List A) (i : ℕ) (x : A) → slice_get xs i ≡ Some x → i < length xs
-nth_within [] i x e = absurd (let z : ◌≡◌ {A = ℕ} 0 1 = cc in omega arith)
-nth_within (y ∷ xs) zero x e = omega arith
-nth_within (y ∷ xs) (suc i) x e = let l = nth_within xs i x e in omega arith
-
 port_within : {L : Type 0} (atoms : List (Node L)) (i j x : ℕ) → at_row j (slice_get (map (λ a. a.links) atoms) i) ≡ Some x → (i < length atoms) × (j < length (port_links atoms))
 unfolding port_links
 port_within [] i j x e = absurd (let z : ◌≡◌ {A = ℕ} 0 1 = cc in omega arith)
-port_within (a ∷ atoms) zero j x e = let l = nth_within a.links j x e in let n = length-append a.links (port_links atoms) in (omega arith, omega arith)
+port_within (a ∷ atoms) zero j x e = let l = slice_get_within a.links j x e in let n = length-append a.links (port_links atoms) in (omega arith, omega arith)
 port_within (a ∷ atoms) (suc i) j x e =
     let ih = port_within atoms i j x e in
     let s = ih.0 in
@@ -184,11 +185,6 @@ unfolding open_link count
 some_counts n [] h = absurd (let z : ◌≡◌ {A = ℕ} 0 1 = cc in omega arith)
 some_counts n (f ∷ fs) h = let ih = some_counts n fs in grind (arith, nat_tests)
 
-counts_some : (n : Name) (free : List FreeLink) → 0 < count n.packed (free_names free) → is_some (open_link n free) ≡ true
-unfolding open_link count
-counts_some n [] h = absurd (omega arith)
-counts_some n (f ∷ fs) h = let ih = counts_some n fs in grind (arith, nat_tests)
-
 -- ** atoms by their shapes and links
 
 links_same : (f : ℕ → ℕ) (xs ys : List ℕ) → length xs ≡ length ys → ((j x : ℕ) → slice_get xs j ≡ Some x → slice_get ys j ≡ Some (f x)) → ys ≡ map f xs
@@ -212,18 +208,9 @@ atoms_same f (x ∷ xs) (y ∷ ys) e h =
     (ap₂ (λ a b. record { label = a.label; cell = a.cell; links = b }) (sym s) same)
     (atoms_same f xs ys t (λ i j z k. h (suc i) j z k))
 
-nth_over : {A B : Type 0} (f : A → B) (xs : List A) (i : ℕ) → slice_get (map f xs) i ≡ over f (slice_get xs i)
-nth_over f [] i = refl
-nth_over f (x ∷ xs) zero = refl
-nth_over f (x ∷ xs) (suc i) = nth_over f xs i
-
-over_same : (o : Option ℕ) → over (λ i. i) o ≡ o
-over_same None = refl
-over_same (Some x) = refl
-
-cell_same : (o : Option Cell) → o ≡ over (cell_by (λ i. i)) o
+cell_same : (o : Option Cell) → o ≡ option_map (cell_by (λ i. i)) o
 cell_same None = refl
-cell_same (Some c) = ap (λ p. Some (record { parent = p; set = c.set })) (sym (over_same c.parent))
+cell_same (Some c) = ap (λ p. Some (record { parent = p; set = c.set })) (sym (option_map_id c.parent))
 
 -- ** the second plan's link for a first plan's
 
@@ -292,21 +279,21 @@ module _ {L : Type 0} (p q : Model L) (same : SameButLinks p q) (apart : distinc
       let a = distinct_once (free_names p.free) x apart in
       let b = distinct_once (free_names q.free) x apart_too in
       let e = same.ends (open_at n) in
-      let there : 0 < count x (free_names p.free) → 0 < count x (free_names q.free) = λ l. some_counts n q.free (sym e ∙ counts_some n p.free l) in
-      let here : 0 < count x (free_names q.free) → 0 < count x (free_names p.free) = λ l. some_counts n p.free (e ∙ counts_some n q.free l) in
+      let there : 0 < count x (free_names p.free) → 0 < count x (free_names q.free) = λ l. some_counts n q.free (sym e ∙ open_some n p.free l) in
+      let here : 0 < count x (free_names q.free) → 0 < count x (free_names p.free) = λ l. some_counts n p.free (e ∙ open_some n q.free l) in
       grind arith
 
   free_rows : Renumbering
   free_rows = renumbering (free_names p.free) (free_names q.free) apart apart_too names_agree
 
-  free_each : (i : ℕ) (o : Option FreeLink) → slice_get p.free i ≡ o → slice_get q.free (there (free_names p.free) (free_names q.free) i) ≡ over (free_by to) o
+  free_each : (i : ℕ) (o : Option FreeLink) → slice_get p.free i ≡ o → slice_get q.free (there (free_names p.free) (free_names q.free) i) ≡ option_map (free_by to) o
   free_each i None e =
       let l = nth_past p.free i e in
       let a = length-map p.free (λ f. f.name.packed) in
       let b = length-map q.free (λ f. f.name.packed) in
       let c = same_length (free_names p.free) (free_names q.free) apart names_agree in
-      let gone : slice_get (free_names p.free) i ≡ None = past_nth (free_names p.free) i (omega arith) in
-      ap (λ o. slice_get q.free (sent o (free_names q.free) i)) gone ∙ past_nth q.free i (omega arith)
+      let gone : slice_get (free_names p.free) i ≡ None = slice_get_past (free_names p.free) i (omega arith) in
+      ap (λ o. slice_get q.free (sent o (free_names q.free) i)) gone ∙ slice_get_past q.free i (omega arith)
   free_each i (Some f) e =
       ap (λ o. slice_get q.free (sent o (free_names q.free) i)) (nth_name p.free i f e)
       ∙ open_row f.name q.free (to f.link) (to_right (open_at f.name) f.link (nth_open p.free i f apart e))
@@ -325,7 +312,7 @@ module _ {L : Type 0} (p q : Model L) (same : SameButLinks p q) (apart : distinc
         atoms = plain;
         free = free_rows;
         each_cell = λ i. ap (λ c. slice_get c i) (sym same.cells) ∙ cell_same (slice_get p.cells i);
-        each_atom = λ i. ap (λ a. slice_get a i) (atoms_same to p.atoms q.atoms same.atoms (λ i j x e. to_right (port i j) x e)) ∙ nth_over (atom_by (λ i. i) to) p.atoms i;
+        each_atom = λ i. ap (λ a. slice_get a i) (atoms_same to p.atoms q.atoms same.atoms (λ i j x e. to_right (port i j) x e)) ∙ slice_get-map (atom_by (λ i. i) to) p.atoms i;
         each_free = λ i. free_each i (slice_get p.free i) refl;
         register = sym same.register;
       }

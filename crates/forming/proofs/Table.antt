@@ -1,4 +1,6 @@
 -- The table of a text's names has them in the order of the form.
+use Rattle.placing.proofs.NamesOf.{noted_apart}
+use Rattle.std.proofs.lemmas.Bool.{and_right}
 use Rattle.std.proofs.Common.{◌≡◌, ℕ, suc, ◌+◌, ◌<◌, ◌≤◌, Bool, true, false, cond, not, ◌&&◌, eqb, List, [], ◌∷◌, ◌++◌, map, filter, sym, refl, ap, ◌∙◌, subst, ap₂, ⊎_elim, append_assoc, append-nil, arith}
 use Rattle.std.proofs.lemmas.List.Elements.{filter-append}
 use Rattle.std.proofs.lemmas.List.{map-append}
@@ -92,16 +94,6 @@ none_here x y d = ap (λ v. cond {A = ℕ} v 1 0) (ne_eqb x y d)
 head_counts : (x : ℕ) (xs : List ℕ) → count x (x ∷ xs) ≡ suc (count x xs)
 unfolding count
 head_counts x xs = cond-true (eqb x x) (suc (count x xs)) (count x xs) (eq-eqb x x refl)
-
-noted_other : (y : ℕ) (x : Name) (p : ℕ) (ns : List Standing) → (y ≡ x.packed → ⊥) → count y (packed_names (noted x p ns)) ≡ count y (packed_names ns)
-unfolding count noted
-noted_other y x p [] h = grind (arith, nat_tests)
-noted_other y x p (s ∷ ns) h = let ih = noted_other y x p ns h in grind (arith, nat_tests)
-
-noted_apart : (x : Name) (p : ℕ) (ns : List Standing) → distinct (packed_names ns) ≡ true → distinct (packed_names (noted x p ns)) ≡ true
-unfolding distinct count noted
-noted_apart x p [] h = refl
-noted_apart x p (s ∷ ns) h = let ih = noted_apart x p ns in let other = noted_other s.name.packed x p ns in grind (arith, nat_tests)
 
 module _ (P : Name → Bool) where
   -- a row of a name that stood once
@@ -218,10 +210,10 @@ module _ (P : Name → Bool) where
       let r = λ (x : Name). eqb (count x.packed (packed_of ns)) 1 && P x in
       let now : (x : Name) → count x.packed (packed_of (ns ++ (n ∷ []))) ≡ count x.packed (packed_of ns) + cond (eqb x.packed n.packed) 1 0 = λ x. ap (count x.packed) (packed_more ns n) ∙ more_count x.packed n.packed (packed_of ns) in
       let two : count n.packed (packed_of (ns ++ (n ∷ []))) ≡ 2 = let e = now n in let c = one_here n.packed in omega arith in
-      let each : (x : Name) → q x ≡ (r x && differs n x) = λ x.
+      let list_all : (x : Name) → q x ≡ (r x && differs n x) = λ x.
       ⊎_elim
       (λ (s : x.packed ≡ n.packed).
-      ap (λ c. eqb c 1 && P x) (ap (λ y. count y (packed_of (ns ++ (n ∷ [])))) s ∙ two) ∙ sym (ends_false (r x) (differs n x) (ap not (eq-eqb x.packed n.packed s))))
+      ap (λ c. eqb c 1 && P x) (ap (λ y. count y (packed_of (ns ++ (n ∷ [])))) s ∙ two) ∙ sym (and_right (r x) (differs n x) (ap not (eq-eqb x.packed n.packed s))))
       (λ (d : x.packed ≡ n.packed → ⊥).
       let e = now x in
       let c = none_here x.packed n.packed d in
@@ -229,13 +221,9 @@ module _ (P : Name → Bool) where
       ap (λ c. eqb c 1 && P x) k ∙ sym (ends_true (r x) (differs n x) (ap not (ne_eqb x.packed n.packed d))))
       (cases_eq x.packed n.packed) in
       filter-append q ns (n ∷ [])
-      ∙ ap₂ ◌++◌ (kept_members q (λ x. r x && differs n x) ns (λ x l. each x) ∙ sym (kept_kept (differs n) r ns)) (ap (λ c. cond (eqb c 1 && P n) (n ∷ []) []) two)
+      ∙ ap₂ ◌++◌ (kept_members q (λ x. r x && differs n x) ns (λ x l. list_all x) ∙ sym (kept_kept (differs n) r ns)) (ap (λ c. cond (eqb c 1 && P n) (n ∷ []) []) two)
       ∙ append-nil (filter (differs n) (alone ns))
     where
-      ends_false : (v w : Bool) → w ≡ false → (v && w) ≡ false
-      ends_false true w e = e
-      ends_false false w e = refl
-
       ends_true : (v w : Bool) → w ≡ true → (v && w) ≡ v
       ends_true true w e = e
       ends_true false w e = refl

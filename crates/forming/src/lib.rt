@@ -9,32 +9,24 @@ ghost use Rattle.forming.specs.Rewriting.{RewritingLaw};
 use label::kind::Label;
 
 /// A text without fault has one form, whose items say the events of the text in their order.
-pub fn form_stands<L: Label>() -> u8
+pub fn form_stands<L: Label>()
     ensures { FormLaw L.kind }
-{
-    0
-}
+{}
 
 /// Each atom and each cell of a text is on the plan once after it, in the cell of the braces directly around it: an atom with
 /// its label and its names' links, a cell with its set. The names that the text opens follow the open names that stay.
-pub fn place_stands<L: Label>() -> u8
+pub fn place_stands<L: Label>()
     ensures { PlaceLaw L.kind }
-{
-    0
-}
+{}
 
 /// After a text two ends lie on one link exactly where its connectors, and the names that close a free link, join what they hang by:
 /// an end that was there by its old link, an end that the text writes by its name.
-pub fn join_stands<L: Label>() -> u8
+pub fn join_stands<L: Label>()
     ensures { JoinLaw L.kind }
-{
-    0
-}
+{}
 
 /// A text with some connectors turned, and with other names for those that stand twice, gives the same plan but for the numbers of links
 /// and the rows of free links.
-pub fn rewriting_stands<L: Label>() -> u8
+pub fn rewriting_stands<L: Label>()
     ensures { RewritingLaw L.kind }
-{
-    0
-}
+{}

@@ -1,5 +1,4 @@
-mod Cells
-mod Looking
+pub mod Looking
 pub mod Automaton
 pub mod Places
 pub mod Standings

@@ -1,13 +1,16 @@
 -- Looking for a name among those that stood.
-use Rattle.std.proofs.Common.{◌≡◌, ℕ, suc, ◌+◌, ◌<◌, ◌≤◌, Bool, true, false, cond, eqb, List, [], ◌∷◌, ◌++◌, length, get_or, take, set, Some, None, sym, refl, ap, ◌∙◌, arith, length-take, get_or-take}
-use lib.Seq.{take-set-lt}
-use Rattle.std.proofs.lemmas.List.{take_more_set}
-use Rattle.std.proofs.lemmas.Bool.{cond-true, cond-false, eq-eqb, ne_eqb}
+use Rattle.std.proofs.Common.{◌≡◌, ℕ, suc, ◌+◌, ◌<◌, ◌≤◌, true, false, cond, eqb, ltb, not, List, [], ◌∷◌, ◌++◌, length, get_or, set, Option, Some, None, sym, refl, ap, ◌∙◌, one-add, append-nil, length-set, arith}
+use Rattle.std.proofs.lemmas.Option.{none-some}
+use Rattle.std.proofs.lemmas.Bool.{ltb-true, ltb-false}
+use Rattle.std.proofs.lemmas.List.Sums.{prefix_len-le-length, sum_by-cons}
+use Rattle.std.proofs.lemmas.List.{take_all, drop_all}
+use Rattle.std.specs.Option.{option_map}
+use Rattle.std.specs.List.{refill, find, count_by, sum_by, position_or_len}
+use Rattle.std.specs.Prelude.{◌==◌}
 use Rattle.text.specs.declared.packed.Name.{Name}
-use Rattle.text.proofs.Slices.{past, at_first, at_none}
 use Rattle.grammar.specs.declared.stand.Standing.{Standing}
 use Rattle.grammar.specs.State.{times, noted}
-use Rattle.grammar.specs.Names.{position}
+use Rattle.grammar.specs.Names.{position, found}
 use Rattle.grammar.specs.Reading.{lone, first_lone}
 use Rattle.grammar.specs.Sheets.{once_in}
 use Rattle.std.proofs.lemmas.Bool.Decides.{nat_tests}
@@ -16,30 +19,36 @@ use Rattle.std.proofs.lemmas.Bool.Decides.{nat_tests}
 abbrev pub blank : Standing
 blank = record { name = record { packed = 0 }; twice = false; place = 0 }
 
-module _ (n : Name) (s : List Standing) where
-  pub hit_row : 0 < length s → (get_or s 0 blank).name.packed ≡ n.packed → position n s ≡ 0
-  unfolding position
-  hit_row h e = ap (position n) (at_first blank s h) ∙ cond-true _ _ _ (eq-eqb _ _ e)
+-- the row of a name in the library's words
+pub position_is : (n : Name) (s : List Standing) → position_or_len (λ x. x.name.packed == n.packed) s ≡ position n s
+unfolding position
+position_is n [] = refl
+position_is n (x ∷ xs) =
+    elim (eqb x.name.packed n.packed) as (λ v. cond (not v) (1 + position_or_len (λ y. y.name.packed == n.packed) xs) 0 ≡ cond v 0 (suc (position n xs))) [
+      | true ↦ refl
+      | false ↦ rw one-add (ap suc (position_is n xs))
+    ]
 
-  pub hit_times : (v : Bool) → 0 < length s → (get_or s 0 blank).name.packed ≡ n.packed → (get_or s 0 blank).twice ≡ v → times n s ≡ cond v 2 1
-  unfolding times
-  hit_times v h e t = ap (times n) (at_first blank s h) ∙ cond-true _ _ _ (eq-eqb _ _ e) ∙ ap (λ b. cond b 2 1) t
+abbrev held : Option ℕ → ℕ
+held None = 0
+held (Some x) = x
 
-  pub miss_row : 0 < length s → ((get_or s 0 blank).name.packed ≡ n.packed → ⊥) → position n s ≡ suc (position n (past 1 s))
-  unfolding position
-  miss_row h e = ap (position n) (at_first blank s h) ∙ cond-false _ _ _ (ne_eqb _ _ e)
+pub found_some : (n : Name) (s : List Standing) (r : ℕ) → Some r ≡ found n s → (r ≡ position n s) × (r < length s)
+found_some n s r e =
+    let p = position_is n s in
+    let q : position_or_len (λ x. x.name.packed == n.packed) s ≤ length s = prefix_len-le-length _ s in
+    elim (ltb (position_or_len (λ x. x.name.packed == n.packed) s) (length s)) as (λ v. (ltb (position_or_len (λ x. x.name.packed == n.packed) s) (length s) ≡ v) → (Some r ≡ cond v (Some (position_or_len (λ x. x.name.packed == n.packed) s)) None) → (r ≡ position n s) × (r < length s)) [
+      | true ↦ λ t f. (let i : r ≡ position_or_len (λ x. x.name.packed == n.packed) s = ap held f in let l : position_or_len (λ x. x.name.packed == n.packed) s < length s = ltb-true _ _ t in (i ∙ p, omega (arith, i, l)))
+      | false ↦ λ t f. absurd (none-some r (sym f))
+    ] refl e
 
-  pub miss_times : 0 < length s → ((get_or s 0 blank).name.packed ≡ n.packed → ⊥) → times n s ≡ times n (past 1 s)
-  unfolding times
-  miss_times h e = ap (times n) (at_first blank s h) ∙ cond-false _ _ _ (ne_eqb _ _ e)
-
-  pub end_row : length s ≡ 0 → position n s ≡ 0
-  unfolding position
-  end_row h = ap (position n) (at_none s h)
-
-  pub end_times : length s ≡ 0 → times n s ≡ 0
-  unfolding times
-  end_times h = ap (times n) (at_none s h)
+pub found_none : (n : Name) (s : List Standing) → None ≡ found n s → length s ≤ position n s
+found_none n s e =
+    let p = position_is n s in
+    elim (ltb (position_or_len (λ x. x.name.packed == n.packed) s) (length s)) as (λ v. (ltb (position_or_len (λ x. x.name.packed == n.packed) s) (length s) ≡ v) → (None ≡ cond v (Some (position_or_len (λ x. x.name.packed == n.packed) s)) None) → length s ≤ position n s) [
+      | true ↦ λ t f. absurd (none-some _ f)
+      | false ↦ λ t f. (let l : length s ≤ position_or_len (λ x. x.name.packed == n.packed) s = ltb-false _ _ t in omega (arith, p, l))
+    ] refl e
 
 pub position_le : (n : Name) (s : List Standing) → position n s ≤ length s
 unfolding position
@@ -66,44 +75,54 @@ noted_new n p (x ∷ xs) h =
       | false ↦ λ k. ap (λ t. x ∷ t) (noted_new n p xs (omega arith))
     ] h
 
+-- what a table holds once it was written through a loan
+pub refilled : (s : List Standing) (i : ℕ) (x : Standing) → refill (length s) s (set s i x) ≡ set s i x
+refilled s i x = let l = length-set s i x in rw (l, drop_all (length s) s (omega arith), append-nil) (take_all (length s) (set s i x) (omega arith))
+
+-- a standing more in the table
+pub note_again : (n : Name) (p r : ℕ) (s : List Standing) (d : Standing) → Some r ≡ found n s → set s r (record { name = (get_or s r d).name; twice = true; place = (get_or s r d).place }) ≡ noted n p s
+note_again n p r s d e = let f = found_some n s r e in rw (f.0) (sym (noted_again n p s d (rw (f.0) at f.1)))
+
+pub note_new : (n : Name) (p : ℕ) (s : List Standing) → None ≡ found n s → s ++ (record { name = n; twice = false; place = p } ∷ []) ≡ noted n p s
+note_new n p s e = sym (noted_new n p s (found_none n s e))
+
 -- the first `_` name that stood once
-pub lone_here : (s : List Standing) → 0 < length s → lone (get_or s 0 blank) ≡ true → first_lone s ≡ Some (get_or s 0 blank).place
+pub lone_find : (s : List Standing) → option_map (λ x. x.place) (find lone s) ≡ first_lone s
 unfolding first_lone
-lone_here s h e = ap first_lone (at_first blank s h) ∙ cond-true _ _ _ e
+lone_find [] = refl
+lone_find (x ∷ xs) = elim (lone x) as (λ v. option_map (λ y. y.place) (cond v (Some x) (find lone xs)) ≡ cond v (Some x.place) (first_lone xs)) [ true ↦ refl | false ↦ lone_find xs ]
 
-pub lone_later : (s : List Standing) → 0 < length s → lone (get_or s 0 blank) ≡ false → first_lone s ≡ first_lone (past 1 s)
-unfolding first_lone
-lone_later s h e = ap first_lone (at_first blank s h) ∙ cond-false _ _ _ e
-
-pub lone_none : (s : List Standing) → length s ≡ 0 → first_lone s ≡ None
-unfolding first_lone
-lone_none s h = ap first_lone (at_none s h)
-
--- the same in the table, of which the first k rows are used
-pub table_again : (n : Name) (p k row : ℕ) (t : List Standing) → row ≡ position n (take k t) → row < k → k ≤ length t → take k (set t row (record { name = (get_or t row blank).name; twice = true; place = (get_or t row blank).place })) ≡ noted n p (take k t)
-table_again n p k row t e h l =
-    let m : length (take k t) ≡ k = length-take k t ∙ omega arith in
-    let g = get_or-take k t row blank h in
-    let q : position n (take k t) < length (take k t) = omega arith in
-    let again = noted_again n p (take k t) blank q in
-    take-set-lt k t row _ h
-    ∙ ap (λ x. set (take k t) row (record { name = x.name; twice = true; place = x.place })) (sym g)
-    ∙ ap (λ r. set (take k t) r (record { name = (get_or (take k t) r blank).name; twice = true; place = (get_or (take k t) r blank).place })) e
-    ∙ sym again
-
-pub table_new : (n : Name) (p k : ℕ) (t : List Standing) → k ≤ position n (take k t) → k < length t → take (k + 1) (set t k (record { name = n; twice = false; place = p })) ≡ noted n p (take k t)
-table_new n p k t h l =
-    let m : length (take k t) ≡ k = length-take k t ∙ omega arith in
-    take_more_set t k _ l ∙ sym (noted_new n p (take k t) (omega arith))
-
-pub once_here : (s : List Standing) → 0 < length s → (get_or s 0 blank).twice ≡ false → once_in s ≡ once_in (past 1 s) + 1
+-- how many names stood once
+pub once_count : (s : List Standing) → count_by (λ x. not x.twice) s ≡ once_in s
 unfolding once_in
-once_here s h e = ap once_in (at_first blank s h) ∙ cond-false _ _ _ e
+once_count [] = refl
+once_count (x ∷ xs) =
+    let f : Standing → ℕ = λ y. cond (not y.twice) 1 0 in
+    let ih : sum_by f xs ≡ once_in xs = once_count xs in
+    sum_by-cons f x xs
+    ∙ elim x.twice as (λ v. cond (not v) 1 0 + sum_by f xs ≡ cond v (once_in xs) (once_in xs + 1)) [ true ↦ omega arith | false ↦ omega arith ]
 
-pub once_later : (s : List Standing) → 0 < length s → (get_or s 0 blank).twice ≡ true → once_in s ≡ once_in (past 1 s)
-unfolding once_in
-once_later s h e = ap once_in (at_first blank s h) ∙ cond-true _ _ _ e
+-- how often a name stood, by its row
+times_at : (n : Name) (s : List Standing) (r : ℕ) (d : Standing) → r ≡ position n s → r < length s → times n s ≡ cond (get_or s r d).twice 2 1
+unfolding times position
+times_at n [] r d e h = absurd (omega arith)
+times_at n (x ∷ xs) r d e h =
+    elim (eqb x.name.packed n.packed) as (λ v. r ≡ cond v 0 (suc (position n xs)) → cond v (cond x.twice 2 1) (times n xs) ≡ cond (get_or (x ∷ xs) r d).twice 2 1) [
+      | true ↦ λ k. rw k refl
+      | false ↦ λ k. rw k (times_at n xs (position n xs) d refl (omega (arith, k, h)))
+    ] e
 
-pub once_none : (s : List Standing) → length s ≡ 0 → once_in s ≡ 0
-unfolding once_in
-once_none s h = ap once_in (at_none s h)
+times_past : (n : Name) (s : List Standing) → length s ≤ position n s → times n s ≡ 0
+unfolding times position
+times_past n [] h = refl
+times_past n (x ∷ xs) h =
+    elim (eqb x.name.packed n.packed) as (λ v. suc (length xs) ≤ cond v 0 (suc (position n xs)) → cond v (cond x.twice 2 1) (times n xs) ≡ 0) [
+      | true ↦ λ k. absurd (omega (arith, k))
+      | false ↦ λ k. times_past n xs (omega (arith, k))
+    ] h
+
+pub times_some : (n : Name) (s : List Standing) (r : ℕ) (d : Standing) → Some r ≡ found n s → times n s ≡ cond (get_or s r d).twice 2 1
+times_some n s r d e = let f = found_some n s r e in times_at n s r d f.0 f.1
+
+pub times_none : (n : Name) (s : List Standing) → None ≡ found n s → times n s ≡ 0
+times_none n s e = times_past n s (found_none n s e)

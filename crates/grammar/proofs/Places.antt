@@ -9,7 +9,8 @@ use Rattle.text.specs.declared.token.Sort.{Sort}
 use Rattle.text.specs.declared.token.Sort.TheVariants as sorts
 use Rattle.text.specs.declared.token.Mark.TheVariants.{Turn, Colon}
 use Rattle.text.specs.Classes.{class_of, blank, digit, tail}
-use Rattle.text.specs.Tokens.{Stream, Front, token, end, fault, tokens, first, front, by_class, measured, negative, longest, colon, single}
+use Rattle.std.specs.List.{prefix_len}
+use Rattle.text.specs.Tokens.{Stream, Front, token, end, fault, tokens, first, front, by_class, measured, negative, colon, single}
 use Rattle.grammar.specs.Laws.{Spot, spots, text_fault}
 
 -- the refusals of a front
@@ -32,10 +33,10 @@ colon_textual (b ∷ bs) = elim (eqb b 45) as (λ v. FrontTextual (cond v (Ok (s
 
 class_textual : (k : Class) (b : ℕ) (bs : List ℕ) → FrontTextual (by_class k b bs)
 class_textual classes.Blank b bs = inl refl
-class_textual classes.Lower b bs = measured_textual sorts.Word (longest tail bs)
-class_textual classes.Upper b bs = measured_textual sorts.LineName (longest tail bs)
+class_textual classes.Lower b bs = measured_textual sorts.Word (prefix_len tail bs)
+class_textual classes.Upper b bs = measured_textual sorts.LineName (prefix_len tail bs)
 class_textual classes.Digit b bs = tt
-class_textual classes.Minus b bs = negative_textual (longest digit bs)
+class_textual classes.Minus b bs = negative_textual (prefix_len digit bs)
 class_textual classes.Mark b bs = elim (eqb b 58) as (λ v. FrontTextual (cond v (colon bs) (Ok (sorts.Mark (single b), 0)))) [ true ↦ colon_textual bs | false ↦ tt ]
 class_textual classes.Other b bs = inl refl
 

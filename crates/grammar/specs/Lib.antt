@@ -4,6 +4,7 @@ pub mod Tests
 pub mod Advance
 pub mod Names
 pub mod Reading
+pub mod Events
 pub mod Form
 pub mod Laws
 pub mod Pull

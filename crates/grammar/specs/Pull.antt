@@ -8,7 +8,7 @@ use Rattle.text.specs.Answer.{shape}
 use Rattle.text.specs.Tokens as tokens
 use Rattle.grammar.specs.declared.event.Event.{Event}
 use Rattle.grammar.specs.declared.reader.Reader.{Reader}
-use Rattle.grammar.specs.Seen.{sees}
+use Rattle.grammar.specs.Seen.{Seen, sees}
 use Rattle.grammar.specs.State.{State, start, state_of, next_state}
 use Rattle.grammar.specs.Names.{names_of}
 use Rattle.grammar.specs.Tests.{text_limit}
@@ -30,6 +30,11 @@ limited bs = cond (nat_lt text_limit (length bs)) (Err (record { refusal = TextT
 -- a reader at the start of a text
 abbrev pub Begun : ℕ → List ℕ → Reader → Type 0
 Begun at bs rd = (rd.rest.now ≡ bs) × (rd.at ≡ at) × (view rd ≡ start)
+
+-- the verdict on a token, a refusal at its place
+abbrev pub Judged : {L : Type 0} → Kind L → State → Seen → ℕ → Result (Option (Event L)) Fault → Type 0
+Judged k st s place (Ok e) = judged k st s ≡ Ok e
+Judged k st s place (Err f) = (judged k st s ≡ Err f.refusal) × (f.place ≡ place)
 
 -- a token taken from a text: the reader goes on past it, or stays where it is refused
 abbrev pub Taken : {L : Type 0} → Kind L → Reader → Found → Result (Option (Event L)) Fault → Reader → Type 0

@@ -5,6 +5,7 @@ use Rattle.fault.specs.declared.Refusal.TheVariants.{TextTooLong, ForeignLabel, 
 use Rattle.fault.specs.declared.Fault.{Fault}
 use Rattle.label.specs.Kind.{Kind}
 use Rattle.text.specs.declared.packed.Name.{Name}
+use Rattle.text.specs.Packed.{underscored}
 use Rattle.text.specs.Tokens as tokens
 use Rattle.grammar.specs.declared.event.Event.{Event}
 use Rattle.grammar.specs.declared.event.Event.TheVariants as events
@@ -60,6 +61,11 @@ event_of k st at_sign = None
 event_of k st other = None
 
 -- a token is refused by the lowest number that is at fault there
+-- the event of a label, or that its token means none
+abbrev pub label_answer : {L : Type 0} → Option L → Result (Option (Event L)) Refusal
+label_answer None = Err ForeignLabel
+label_answer (Some l) = Ok (labelled (Some l))
+
 abbrev pub judged : {L : Type 0} → Kind L → State → Seen → Result (Option (Event L)) Refusal
 judged k st s =
     cond (foreign_label k st s) (Err ForeignLabel)
@@ -87,10 +93,6 @@ may_end After = true
 -- a hang may end here
 abbrev pub complete : State → Bool
 complete st = may_end st.phase && not (inside st.cells)
-
--- a name begins with _
-abbrev pub underscored : Name → Bool
-underscored n = n.packed / 2 ^ 56 == 95
 
 -- a `_` name that stood once
 abbrev pub lone : Standing → Bool

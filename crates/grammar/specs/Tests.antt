@@ -2,6 +2,7 @@
 use Rattle.std.specs.Prelude.{ℕ, Bool, true, false, cond, not, ◌&&◌, ◌||◌, List, [], ◌∷◌, length, is_some, Some, None, Option, ◌==◌, nat_le}
 use Rattle.label.specs.declared.form.Form.TheVariants as forms
 use Rattle.label.specs.Kind.{Kind}
+use Rattle.text.specs.Limits.{depth_limit, port_limit, set_limit}
 use Rattle.text.specs.Numbers.{digits_value}
 use Rattle.grammar.specs.declared.stand.Phase.{Phase}
 use Rattle.grammar.specs.declared.stand.Phase.TheVariants.{Start, Item, Label, Ports, Port, First, Second, Set, After}
@@ -9,17 +10,8 @@ use Rattle.grammar.specs.Seen.{Seen, word, number, name, comma, open_paren, clos
 use Rattle.grammar.specs.State.{State, item_due, times}
 
 -- the limits of a hang
-abbrev pub depth_limit : ℕ
-depth_limit = 16
-
-abbrev pub port_limit : ℕ
-port_limit = 8
-
 abbrev pub connector_limit : ℕ
 connector_limit = 64
-
-abbrev pub set_limit : ℕ
-set_limit = 15
 
 abbrev pub text_limit : ℕ
 text_limit = 65535

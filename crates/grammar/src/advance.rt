@@ -1,13 +1,15 @@
 //! Where a reading stands after one token more.
-ghost use Rattle.std.specs.Prelude.{◌≡◌, ◌≤◌, false, ◌&&◌, []};
+ghost use Rattle.std.specs.Prelude.{◌≡◌, ◌≤◌, false, ◌&&◌, [], length, reverse, nat_le};
 ghost use Rattle.grammar.specs.Seen.{seen};
-ghost use Rattle.grammar.specs.State.{state_of, open_cells, next_phase, next_cells, next_connectors, after_name};
-ghost use Rattle.grammar.specs.Tests.{is_name, ports_full, too_deep, ninth_port, crowded};
+ghost use Rattle.grammar.specs.State.{state_of, next_phase, next_cells, next_connectors, after_name};
+ghost use Rattle.text.specs.Limits.{depth_limit};
+ghost use Rattle.grammar.specs.Tests.{is_name, is_open_brace, ports_full, too_deep, ninth_port, crowded};
 ghost use Rattle.grammar.specs.Advance.{Advanced};
 
-use crate::limits::DEPTHS;
 use crate::sign::Sign;
 use crate::stand::{Phase, Stand};
+use arrayvec::ArrayVec;
+use text::limits::DEPTH_LIMIT;
 
 /// What was read last, after a name.
 fn after_name(phase: Phase) -> Phase
@@ -57,25 +59,23 @@ fn next_connectors(stand: &Stand, sign: Sign<'_>) -> usize
     }
 }
 
-/// How many cells are open, and which of them have their set, after a token that is not at fault.
-fn next_cells(stand: &Stand, sign: Sign<'_>) -> (usize, [bool; DEPTHS])
-    requires { too_deep (state_of stand.now []) (seen sign) ≡ false }
-    ensures is { open_cells result.0 result.1 ≡ next_cells (open_cells stand.now.depth stand.now.sets) (seen sign.entry) }
-    ensures shallow { result.0 ≤ 16 }
+/// Opens and closes cells, and gives the innermost its set, after a token that is not at fault.
+
+fn step_cells(sets: &mut ArrayVec<bool, DEPTH_LIMIT>, sign: Sign<'_>)
+    requires { is_open_brace (seen sign) && nat_le depth_limit (length (reverse sets.old.items)) ≡ false }
+    ensures { reverse sets.new.items ≡ next_cells (reverse sets.old.items) (seen sign.entry) }
 {
-    let depth = stand.depth;
-    let mut sets = stand.sets;
     match sign {
-        Sign::OpenBrace => {
-            sets[depth + 1] = false;
-            (depth + 1, sets)
+        Sign::OpenBrace => sets.push(false),
+        Sign::CloseBrace => {
+            let _ = sets.pop();
         }
-        Sign::CloseBrace => (depth.saturating_sub(1), sets),
         Sign::At => {
-            sets[depth] = true;
-            (depth, sets)
+            if let Some(set) = sets.last_mut() {
+                *set = true;
+            }
         }
-        _ => (depth, sets),
+        _ => {}
     }
 }
 
@@ -88,11 +88,7 @@ pub fn advance(stand: &mut Stand, sign: Sign<'_>)
 {
     let phase = next_phase(stand.phase, sign);
     let connectors = next_connectors(stand, sign);
-    let (depth, sets) = next_cells(stand, sign);
-    *stand = Stand {
-        phase,
-        depth,
-        sets,
-        connectors,
-    };
+    step_cells(&mut stand.sets, sign);
+    stand.phase = phase;
+    stand.connectors = connectors;
 }

@@ -4,27 +4,33 @@ ghost use Rattle.grammar.specs.declared.stand.Standing.{Standing};
 ghost use Rattle.grammar.specs.Seen.{Seen, seen, word, number, name as named, open_brace, close_brace, at_sign};
 ghost use Rattle.grammar.specs.State.{state_of, times as standings};
 ghost use Rattle.grammar.specs.Tests.{stood, set_of};
-ghost use Rattle.grammar.specs.Reading.{judged};
+ghost use Rattle.grammar.specs.Reading.{judged, label_answer};
 
 use crate::event::Event;
-use crate::limits::{CONNECTOR_LIMIT, DEPTH_LIMIT, PORT_LIMIT, SET_LIMIT};
+use crate::limits::CONNECTOR_LIMIT;
 use crate::sign::Sign;
 use crate::stand::{Phase, Stand};
 use fault::Refusal;
 use label::form::Form;
 use label::kind::Label;
+use text::limits::{PORT_LIMIT, SET_LIMIT};
 use text::number::value_up_to;
 use text::packed::Name;
+
+/// The event of a label's token.
+fn label_event<L: Label>(form: Form, bytes: &[u8]) -> Result<Option<Event<L>>, Refusal>
+    ensures { result ≡ label_answer (L.kind.read form bytes.now) }
+{
+    let label = L::read(form, bytes).ok_or(Refusal::ForeignLabel)?;
+    Ok(Some(Event::Label(label)))
+}
 
 /// A word in its place.
 fn judge_word<L: Label>(stand: &Stand, bytes: &[u8]) -> Result<Option<Event<L>>, Refusal>
     ensures { (ns : List Standing) → result ≡ judged L.kind (state_of stand.now ns) (word bytes.now) }
 {
     match stand.phase {
-        Phase::Start | Phase::Item => match L::read(Form::Word, bytes) {
-            Some(label) => Ok(Some(Event::Label(label))),
-            None => Err(Refusal::ForeignLabel),
-        },
+        Phase::Start | Phase::Item => label_event(Form::Word, bytes),
         _ => Err(Refusal::Unexpected),
     }
 }
@@ -35,29 +41,15 @@ fn judge_name<L: Label>(stand: &Stand, name: Name, times: u8) -> Result<Option<E
 {
     match stand.phase {
         Phase::Ports(n) if n >= PORT_LIMIT => Err(Refusal::NinthPort),
-        Phase::Ports(_) => {
-            if times >= 2 {
-                Err(Refusal::HangName)
-            } else {
-                Ok(Some(Event::Port(name)))
-            }
-        }
-        Phase::Second => {
-            if times >= 2 {
-                Err(Refusal::HangName)
-            } else {
-                Ok(Some(Event::Second(name)))
-            }
-        }
-        Phase::Start | Phase::Item => {
-            if times >= 2 {
-                Err(Refusal::HangName)
-            } else if stand.connectors >= CONNECTOR_LIMIT {
-                Err(Refusal::TooManyItems)
-            } else {
-                Ok(Some(Event::First(name)))
-            }
-        }
+        Phase::Ports(_) | Phase::Second | Phase::Start | Phase::Item if times >= 2 => Err(
+            Refusal::HangName,
+        ),
+        Phase::Ports(_) => Ok(Some(Event::Port(name))),
+        Phase::Second => Ok(Some(Event::Second(name))),
+        Phase::Start | Phase::Item if stand.connectors >= CONNECTOR_LIMIT => Err(
+            Refusal::TooManyItems,
+        ),
+        Phase::Start | Phase::Item => Ok(Some(Event::First(name))),
         _ => Err(Refusal::Unexpected),
     }
 }
@@ -67,13 +59,8 @@ fn judge_open<L: Label>(stand: &Stand) -> Result<Option<Event<L>>, Refusal>
     ensures { (ns : List Standing) → result ≡ judged L.kind (state_of stand.now ns) open_brace }
 {
     match stand.phase {
-        Phase::Start | Phase::Item => {
-            if stand.depth >= DEPTH_LIMIT {
-                Err(Refusal::TooDeep)
-            } else {
-                Ok(Some(Event::Enter))
-            }
-        }
+        Phase::Start | Phase::Item if stand.sets.is_full() => Err(Refusal::TooDeep),
+        Phase::Start | Phase::Item => Ok(Some(Event::Enter)),
         _ => Err(Refusal::Unexpected),
     }
 }
@@ -83,13 +70,9 @@ fn judge_close<L: Label>(stand: &Stand) -> Result<Option<Event<L>>, Refusal>
     ensures { (ns : List Standing) → result ≡ judged L.kind (state_of stand.now ns) close_brace }
 {
     match stand.phase {
-        Phase::Start | Phase::Label | Phase::After => {
-            if stand.depth > 0 {
-                Ok(Some(Event::Leave))
-            } else {
-                Err(Refusal::Unexpected)
-            }
-        }
+        Phase::Start | Phase::Label | Phase::After if !stand.sets.is_empty() => Ok(Some(
+            Event::Leave,
+        )),
         _ => Err(Refusal::Unexpected),
     }
 }
@@ -99,13 +82,10 @@ fn judge_at<L: Label>(stand: &Stand) -> Result<Option<Event<L>>, Refusal>
     ensures { (ns : List Standing) → result ≡ judged L.kind (state_of stand.now ns) at_sign }
 {
     match stand.phase {
-        Phase::Start | Phase::Item => {
-            if stand.depth == 0 || stand.sets[stand.depth] {
-                Err(Refusal::MisplacedSet)
-            } else {
-                Ok(None)
-            }
-        }
+        Phase::Start | Phase::Item => match stand.sets.last() {
+            Some(false) => Ok(None),
+            _ => Err(Refusal::MisplacedSet),
+        },
         _ => Err(Refusal::Unexpected),
     }
 }
@@ -117,12 +97,8 @@ fn set_number(bytes: &[u8]) -> Option<u8>
     match bytes {
         [] | [b'-', ..] => None,
         _ => {
-            let k = value_up_to(SET_LIMIT + 1, bytes);
-            if k >= 1 && k <= SET_LIMIT {
-                Some(k as u8)
-            } else {
-                None
-            }
+            let k = value_up_to(u32::from(SET_LIMIT) + 1, bytes);
+            (1..=u32::from(SET_LIMIT)).contains(&k).then_some(k as u8)
         }
     }
 }
@@ -132,14 +108,11 @@ fn judge_number<L: Label>(stand: &Stand, bytes: &[u8]) -> Result<Option<Event<L>
     ensures { (ns : List Standing) → result ≡ judged L.kind (state_of stand.now ns) (number bytes.now) }
 {
     match stand.phase {
-        Phase::Set => match set_number(bytes) {
-            Some(k) => Ok(Some(Event::Set(k))),
-            None => Err(Refusal::SetNumber),
-        },
-        Phase::Start | Phase::Item => match L::read(Form::Number, bytes) {
-            Some(label) => Ok(Some(Event::Label(label))),
-            None => Err(Refusal::ForeignLabel),
-        },
+        Phase::Set => {
+            let set = set_number(bytes).ok_or(Refusal::SetNumber)?;
+            Ok(Some(Event::Set(set)))
+        }
+        Phase::Start | Phase::Item => label_event(Form::Number, bytes),
         _ => Err(Refusal::Unexpected),
     }
 }

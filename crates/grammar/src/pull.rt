@@ -6,16 +6,17 @@ ghost use Rattle.grammar.specs.State.{state_of, next_names};
 ghost use Rattle.grammar.specs.Names.{names_of, Row};
 ghost use Rattle.grammar.specs.Tests.{text_limit, stood};
 ghost use Rattle.grammar.specs.Reading.{complete, ended};
-ghost use Rattle.grammar.specs.Pull.{left, limited, Begun, Taken, given, Goes, ComesTo, answered};
+ghost use Rattle.grammar.specs.Pull.{Judged, left, limited, Begun, Taken, given, Goes, ComesTo, answered};
 
 use crate::advance::advance;
 use crate::event::Event;
 use crate::judge::judge;
-use crate::limits::{DEPTHS, TEXT_LIMIT};
+use crate::limits::TEXT_LIMIT;
 use crate::reader::Reader;
-use crate::sign::{Sign, sign_of};
+use crate::sign::Sign;
 use crate::stand::{Phase, Stand};
 use crate::table::Names;
+use arrayvec::ArrayVec;
 use fault::{Fault, Refusal};
 use label::kind::Label;
 use text::lexer::next_token;
@@ -26,36 +27,54 @@ pub fn limit_length(text: &[u8]) -> Result<(), Fault>
     ensures { result ≡ limited text.now }
 {
     if text.len() > TEXT_LIMIT {
-        Err(Fault {
-            refusal: Refusal::TextTooLong,
-            place: 0,
-        })
-    } else {
-        Ok(())
+        return Err(Refusal::TextTooLong.at(0));
+    }
+    Ok(())
+}
+
+/// The row of a token's name, if it has one that stood.
+fn find(names: &Names, sign: Sign<'_>) -> Option<usize>
+    ensures { Row (seen sign.entry) (names_of names.now) result }
+{
+    match sign {
+        Sign::Name(name) => names.find(name),
+        _ => None,
     }
 }
 
-/// The row of a token's name, and how often it stood.
-fn look(stand: &Stand, names: &Names, sign: Sign<'_>) -> (usize, u8)
-    ensures row { Row (seen sign.entry) (names_of names.now) result.0 }
-    ensures times { result.1 ≡ stood (state_of stand.now (names_of names.now)) (seen sign.entry) }
+/// How often a token's name stood, by its row.
+fn times(stand: &Stand, names: &Names, sign: Sign<'_>, row: Option<usize>) -> u8
+    requires { Row (seen sign) (names_of names.now) row }
+    ensures { result ≡ stood (state_of stand.now (names_of names.now)) (seen sign.entry) }
 {
     match sign {
-        Sign::Name(name) => names.look(name),
-        _ => (0, 0),
+        Sign::Name(_) => names.times_at(row),
+        _ => 0,
     }
 }
 
 /// Notes the standing of a token's name.
-fn note(names: &mut Names, sign: Sign<'_>, row: usize, place: usize)
+fn note(names: &mut Names, sign: Sign<'_>, row: Option<usize>, place: usize)
     requires at { Row (seen sign) (names_of names.old) row }
-    requires room { names.old.count < text_limit }
+    requires room { length (names_of names.old) < text_limit }
     ensures is { names_of names.new ≡ next_names (names_of names.old) (seen sign.entry) place }
-    ensures few { names.new.count ≤ names.old.count + 1 }
+    ensures few { length (names_of names.new) ≤ length (names_of names.old) + 1 }
 {
     if let Sign::Name(name) = sign {
         names.note(name, row, place);
     }
+}
+
+/// The verdict on a token, with a refusal at the token's place.
+fn verdict<L: Label>(
+    stand: &Stand,
+    sign: Sign<'_>,
+    times: u8,
+    place: usize,
+) -> Result<Option<Event<L>>, Fault>
+    ensures { (ns : List Standing) → times ≡ stood (state_of stand.now ns) (seen sign.entry) → Judged L.kind (state_of stand.now ns) (seen sign.entry) place result }
+{
+    judge(stand, sign, times).map_err(|refusal| refusal.at(place))
 }
 
 /// Whether a hang may end here.
@@ -63,7 +82,7 @@ fn may_end(stand: &Stand) -> bool
     ensures { (ns : List Standing) → result ≡ complete (state_of stand.now ns) }
 {
     match stand.phase {
-        Phase::Start | Phase::Label | Phase::After => stand.depth == 0,
+        Phase::Start | Phase::Label | Phase::After => stand.sets.is_empty(),
         _ => false,
     }
 }
@@ -73,17 +92,11 @@ fn finish<L: Label>(stand: &Stand, names: &Names, place: usize) -> Result<Option
     ensures is { answered result ≡ ended (state_of stand.now (names_of names.now)) place }
 {
     if !may_end(stand) {
-        return Err(Fault {
-            refusal: Refusal::Unexpected,
-            place,
-        });
+        return Err(Refusal::Unexpected.at(place));
     }
     match names.first_lone() {
         None => Ok(None),
-        Some(place) => Err(Fault {
-            refusal: Refusal::HangName,
-            place,
-        }),
+        Some(place) => Err(Refusal::HangName.at(place)),
     }
 }
 
@@ -95,8 +108,7 @@ impl<'t> Reader<'t> {
     {
         let stand = Stand {
             phase: Phase::Start,
-            depth: 0,
-            sets: [false; DEPTHS],
+            sets: ArrayVec::new(),
             connectors: 0,
         };
         Reader {
@@ -113,21 +125,15 @@ impl<'t> Reader<'t> {
         requires ahead { length found.rest.now < length self.old.rest.now }
         ensures { Taken L.kind self.old found.entry result self.new }
     {
-        let sign = sign_of(found.token);
-        let (row, times) = look(&self.stand, &self.names, sign);
-        match judge::<L>(&self.stand, sign, times) {
-            Err(refusal) => Err(Fault {
-                refusal,
-                place: found.place,
-            }),
-            Ok(event) => {
-                advance(&mut self.stand, sign);
-                note(&mut self.names, sign, row, found.place);
-                self.rest = found.rest;
-                self.at = found.next;
-                Ok(event)
-            }
-        }
+        let sign = Sign::from(found.token);
+        let row = find(&self.names, sign);
+        let times = times(&self.stand, &self.names, sign, row);
+        let event = verdict(&self.stand, sign, times, found.place)?;
+        advance(&mut self.stand, sign);
+        note(&mut self.names, sign, row, found.place);
+        self.rest = found.rest;
+        self.at = found.next;
+        Ok(event)
     }
 
     /// The next event, or none at the text's end.

@@ -15,30 +15,18 @@ fn count<L: Label>(sheet: Sheet, event: Event<L>) -> Sheet
     requires { sheet.atoms + sheet.cells + sheet.connectors < 2 ^ 32 }
     ensures { result ≡ tally sheet event }
 {
-    let Sheet {
-        atoms,
-        cells,
-        connectors,
-        once,
-    } = sheet;
     match event {
         Event::Label(_) => Sheet {
-            atoms: atoms + 1,
-            cells,
-            connectors,
-            once,
+            atoms: sheet.atoms + 1,
+            ..sheet
         },
         Event::Enter => Sheet {
-            atoms,
-            cells: cells + 1,
-            connectors,
-            once,
+            cells: sheet.cells + 1,
+            ..sheet
         },
         Event::First(_) => Sheet {
-            atoms,
-            cells,
-            connectors: connectors + 1,
-            once,
+            connectors: sheet.connectors + 1,
+            ..sheet
         },
         _ => sheet,
     }
@@ -52,12 +40,7 @@ pub fn read<L: Label>(text: &[u8]) -> Result<Sheet, Fault>
 {
     limit_length(text)?;
     let mut reader = Reader::new(text, 0);
-    let mut sheet = Sheet {
-        atoms: 0,
-        cells: 0,
-        connectors: 0,
-        once: 0,
-    };
+    let mut sheet = Sheet::default();
     while let Some(event) = reader.next::<L>()? {
         sheet = count(sheet, event);
     }

@@ -1,5 +1,6 @@
 //! The reader of a hang.
 ghost use Rattle.std.specs.Prelude.{◌+◌, ◌^◌, ◌<◌, ◌≤◌, length};
+ghost use Rattle.grammar.specs.Names.{names_of};
 
 use crate::stand::Stand;
 use crate::table::Names;
@@ -12,5 +13,5 @@ pub struct Reader<'t> {
     pub stand: Stand,
     pub names: Names,
     ghost fits: { at + length rest.now < 2 ^ 64 },
-    ghost room: { names.count + length rest.now ≤ 65535 },
+    ghost room: { length (names_of names) + length rest.now ≤ 65535 },
 }

@@ -3,7 +3,7 @@ ghost use Rattle.std.specs.Prelude.{◌≡◌};
 ghost use Rattle.text.specs.Answer.{shape};
 ghost use Rattle.grammar.specs.Seen.{seen, sees};
 
-use text::packed::{Name, packed};
+use text::packed::Name;
 use text::token::{Mark, Token};
 
 /// A token to the grammar.
@@ -24,22 +24,22 @@ pub enum Sign<'t> {
 }
 
 /// What a token is to the grammar.
-pub fn sign_of<'t>(token: Token<'t>) -> Sign<'t>
-    ensures { seen result ≡ sees (shape token.entry) }
-{
-    match token {
-        Token::Word(bytes) => Sign::Word(bytes),
-        Token::LineName(bytes) => Sign::Name(Name {
-            packed: packed(bytes),
-        }),
-        Token::Number(bytes) => Sign::Number(bytes),
-        Token::Mark(Mark::Comma) => Sign::Comma,
-        Token::Mark(Mark::Open) => Sign::Open,
-        Token::Mark(Mark::Close) => Sign::Close,
-        Token::Mark(Mark::OpenBrace) => Sign::OpenBrace,
-        Token::Mark(Mark::CloseBrace) => Sign::CloseBrace,
-        Token::Mark(Mark::Equal) => Sign::Equal,
-        Token::Mark(Mark::At) => Sign::At,
-        Token::Mark(Mark::Stop | Mark::Colon | Mark::Dollar | Mark::Turn) => Sign::Other,
+impl<'t> From<Token<'t>> for Sign<'t> {
+    ghost from_gives = { λ token sign. seen sign ≡ sees (shape token) };
+
+    fn from(token: Token<'t>) -> Sign<'t> {
+        match token {
+            Token::Word(bytes) => Sign::Word(bytes),
+            Token::LineName(bytes) => Sign::Name(Name::new(bytes)),
+            Token::Number(bytes) => Sign::Number(bytes),
+            Token::Mark(Mark::Comma) => Sign::Comma,
+            Token::Mark(Mark::Open) => Sign::Open,
+            Token::Mark(Mark::Close) => Sign::Close,
+            Token::Mark(Mark::OpenBrace) => Sign::OpenBrace,
+            Token::Mark(Mark::CloseBrace) => Sign::CloseBrace,
+            Token::Mark(Mark::Equal) => Sign::Equal,
+            Token::Mark(Mark::At) => Sign::At,
+            Token::Mark(Mark::Stop | Mark::Colon | Mark::Dollar | Mark::Turn) => Sign::Other,
+        }
     }
 }

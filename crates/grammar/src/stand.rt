@@ -1,7 +1,8 @@
 //! Where the reading of a hang stands.
 ghost use Rattle.std.specs.Prelude.{◌≤◌};
 
-use crate::limits::DEPTHS;
+use arrayvec::ArrayVec;
+use text::limits::DEPTH_LIMIT;
 use text::packed::Name;
 
 /// What was read last, as far as it decides what may follow.
@@ -28,21 +29,18 @@ pub enum Phase {
 }
 
 /// The state of a reading, but for the names that stood.
-#[derive(Clone, Copy)]
+#[derive(Drop)]
 pub struct Stand {
     pub phase: Phase,
-    /// How many cells are open.
-    pub depth: usize,
-    /// Whether each open cell has its set, by its depth.
-    pub sets: [bool; DEPTHS],
+    /// Whether each open cell has its set, the innermost cell last.
+    pub sets: ArrayVec<bool, DEPTH_LIMIT>,
     /// How many connectors were begun.
     pub connectors: usize,
-    ghost shallow: { depth ≤ 16 },
     ghost few: { connectors ≤ 64 },
 }
 
 /// A name that stood.
-#[derive(Clone, Copy)]
+#[derive(Clone, Copy, Default)]
 pub struct Standing {
     pub name: Name,
     /// Whether it stood a second time.

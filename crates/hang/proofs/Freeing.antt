@@ -1,56 +1,51 @@
 -- The free links after a text, one after another.
-use Rattle.std.proofs.Common.{◌≡◌, ℕ, zero, suc, ◌+◌, ◌<◌, Bool, true, false, cond, List, [], ◌∷◌, ◌++◌, length, get_or, take, filter, sym, refl, ap, ◌∙◌, subst, append_assoc, append-nil, arith}
-use Rattle.std.proofs.lemmas.List.Elements.{filter_more}
+use Rattle.std.proofs.Common.{◌≡◌, ℕ, suc, ◌+◌, ◌<◌, Bool, true, false, cond, leb, List, [], ◌∷◌, ◌++◌, length, get_or, drop, filter, refl, ap, ap₂, ◌∙◌, append_assoc, arith, length-append}
+use Rattle.std.proofs.Math.Seq.{drop-cons}
+use Rattle.std.proofs.lemmas.Bool.Decides.{nat_tests}
 use Rattle.grammar.specs.declared.stand.Standing.{Standing}
 use Rattle.plan.specs.declared.tables.FreeLink.{FreeLink}
 use Rattle.placing.specs.Links.{opened, opens}
-use Rattle.hang.specs.Rows.{Filled, pushed}
-use Rattle.hang.proofs.Assigning.{no_standing}
-use Rattle.hang.proofs.Filling.{filled_more}
 
-pub kept_one : {A : Type 0} (d : A) (p : A → Bool) (xs : List A) (i : ℕ) (out : List A) (n : ℕ) → i < length xs → p (get_or xs i d) ≡ true → Filled out n (filter p (take i xs)) → Filled (pushed out n (get_or xs i d)) (n + 1) (filter p (take (i + 1) xs))
-kept_one d p xs i out n h e f =
-    subst (λ ys. Filled (pushed out n (get_or xs i d)) (n + 1) ys)
-    (sym (filter_more p xs i d h ∙ ap (λ v. filter p (take i xs) ++ cond v (get_or xs i d ∷ []) []) e))
-    (filled_more out n (filter p (take i xs)) (get_or xs i d) f)
+module _ {A : Type 0} where
+  -- one more is listed
+  pub listed : (items out rest w : List A) (x : A) → out ≡ items ++ (x ∷ []) → items ++ (x ∷ rest) ≡ w → out ++ rest ≡ w
+  listed items out rest w x o e = ap (λ s. s ++ rest) o ∙ append_assoc items (x ∷ []) rest ∙ e
 
-pub left_one : {A : Type 0} (d : A) (p : A → Bool) (xs : List A) (i : ℕ) (out : List A) (n : ℕ) → i < length xs → p (get_or xs i d) ≡ false → Filled out n (filter p (take i xs)) → Filled out n (filter p (take (i + 1) xs))
-left_one d p xs i out n h e f =
-    subst (λ ys. Filled out n ys)
-    (sym (filter_more p xs i d h ∙ ap (λ v. filter p (take i xs) ++ cond v (get_or xs i d ∷ []) []) e ∙ append-nil (filter p (take i xs))))
-    f
+  -- one more does not fit
+  pub too_many : (items rest w more : List A) (x : A) → length items ≡ 64 → items ++ (x ∷ rest) ≡ w → false ≡ leb (length (w ++ more)) 64
+  too_many items rest w more x n e =
+      let l : length (items ++ (x ∷ rest)) ≡ length w = ap length e in
+      let a = length-append items (x ∷ rest) in
+      let b = length-append w more in
+      grind (arith, nat_tests)
 
--- one name more
-pub opened_more : (free : List FreeLink) (ss : List Standing) (xs : List ℕ) (i : ℕ) → i < length ss → i < length xs → opened free (take (i + 1) ss) (take (i + 1) xs) ≡ opened free (take i ss) (take i xs) ++ cond (opens free (get_or ss i no_standing)) (record { name = (get_or ss i no_standing).name; link = get_or xs i 0 } ∷ []) []
-unfolding opened
-opened_more free [] xs i h k = absurd (omega arith)
-opened_more free (s ∷ ss) [] i h k = absurd (omega arith)
-opened_more free (s ∷ ss) (x ∷ xs) zero h k = refl
-opened_more free (s ∷ ss) (x ∷ xs) (suc i) h k =
-    let m : suc i + 1 ≡ suc (i + 1) = omega arith in
-    let ih = opened_more free ss xs i (omega arith) (omega arith) in
-    let rest : List FreeLink = cond (opens free (get_or ss i no_standing)) (record { name = (get_or ss i no_standing).name; link = get_or xs i 0 } ∷ []) [] in
-    ap (λ j. opened free (take j (s ∷ ss)) (take j (x ∷ xs))) m
-    ∙ ap (λ t. cond (opens free s) (record { name = s.name; link = x } ∷ t) t) ih
-    ∙ elim (opens free s) as (λ v. cond v (record { name = s.name; link = x } ∷ (opened free (take i ss) (take i xs) ++ rest)) (opened free (take i ss) (take i xs) ++ rest) ≡ cond v (record { name = s.name; link = x } ∷ opened free (take i ss) (take i xs)) (opened free (take i ss) (take i xs)) ++ rest) [ true ↦ refl | false ↦ refl ]
+  module _ (p : A → Bool) (xs : List A) (i : ℕ) (d : A) (here : i < length xs) where
+    front : filter p (drop i xs) ≡ cond (p (get_or xs i d)) (get_or xs i d ∷ filter p (drop (i + 1) xs)) (filter p (drop (i + 1) xs))
+    front = let m : suc i ≡ i + 1 = omega arith in ap (filter p) (drop-cons xs i d here) ∙ ap (λ j. cond (p (get_or xs i d)) (get_or xs i d ∷ filter p (drop j xs)) (filter p (drop j xs))) m
 
-pub opened_none : (free : List FreeLink) (ss : List Standing) (xs : List ℕ) → opened free (take 0 ss) (take 0 xs) ≡ []
-unfolding opened
-opened_none free [] xs = refl
-opened_none free (s ∷ ss) xs = refl
+    pub kept_here : p (get_or xs i d) ≡ true → filter p (drop i xs) ≡ get_or xs i d ∷ filter p (drop (i + 1) xs)
+    kept_here e = front ∙ ap (λ v. cond v (get_or xs i d ∷ filter p (drop (i + 1) xs)) (filter p (drop (i + 1) xs))) e
 
-pub opened_one : (free : List FreeLink) (ss : List Standing) (xs : List ℕ) (i : ℕ) (out : List FreeLink) (n : ℕ) (ys : List FreeLink) → i < length ss → i < length xs → opens free (get_or ss i no_standing) ≡ true → Filled out n (ys ++ opened free (take i ss) (take i xs)) → Filled (pushed out n (record { name = (get_or ss i no_standing).name; link = get_or xs i 0 })) (n + 1) (ys ++ opened free (take (i + 1) ss) (take (i + 1) xs))
-opened_one free ss xs i out n ys h k e f =
-    let one : FreeLink = record { name = (get_or ss i no_standing).name; link = get_or xs i 0 } in
-    let before = opened free (take i ss) (take i xs) in
-    let m : opened free (take (i + 1) ss) (take (i + 1) xs) ≡ before ++ (one ∷ []) = opened_more free ss xs i h k ∙ ap (λ v. before ++ cond v (one ∷ []) []) e in
-    subst (λ zs. Filled (pushed out n one) (n + 1) zs)
-    (append_assoc ys before (one ∷ []) ∙ ap (λ t. ys ++ t) (sym m))
-    (filled_more out n (ys ++ before) one f)
+    pub left_here : p (get_or xs i d) ≡ false → filter p (drop i xs) ≡ filter p (drop (i + 1) xs)
+    left_here e = front ∙ ap (λ v. cond v (get_or xs i d ∷ filter p (drop (i + 1) xs)) (filter p (drop (i + 1) xs))) e
 
-pub opened_skip : (free : List FreeLink) (ss : List Standing) (xs : List ℕ) (i : ℕ) (out : List FreeLink) (n : ℕ) (ys : List FreeLink) → i < length ss → i < length xs → opens free (get_or ss i no_standing) ≡ false → Filled out n (ys ++ opened free (take i ss) (take i xs)) → Filled out n (ys ++ opened free (take (i + 1) ss) (take (i + 1) xs))
-opened_skip free ss xs i out n ys h k e f =
-    let one : FreeLink = record { name = (get_or ss i no_standing).name; link = get_or xs i 0 } in
-    let before = opened free (take i ss) (take i xs) in
-    let m : opened free (take (i + 1) ss) (take (i + 1) xs) ≡ before = opened_more free ss xs i h k ∙ ap (λ v. before ++ cond v (one ∷ []) []) e ∙ append-nil before in
-    subst (λ zs. Filled out n (ys ++ zs)) (sym m) f
+-- two lists as long as each other, each without its first
+pub shorter : {A B : Type 0} (a ss : List A) (b xs : List B) (s : A) (x : B) → a ≡ s ∷ ss → b ≡ x ∷ xs → length a ≡ length b → length ss ≡ length xs
+shorter a ss b xs s x e f l =
+    let i : length a ≡ suc (length ss) = ap length e in
+    let j : length b ≡ suc (length xs) = ap length f in
+    omega arith
+
+module _ (free : List FreeLink) where
+  pub opened_here : (a ss : List Standing) (b xs : List ℕ) (s : Standing) (x : ℕ) → a ≡ s ∷ ss → b ≡ x ∷ xs → opens free s ≡ true → opened free a b ≡ record { name = s.name; link = x } ∷ opened free ss xs
+  unfolding opened
+  opened_here a ss b xs s x e f h = ap₂ (opened free) e f ∙ ap (λ v. cond v (record { name = s.name; link = x } ∷ opened free ss xs) (opened free ss xs)) h
+
+  pub opened_not : (a ss : List Standing) (b xs : List ℕ) (s : Standing) (x : ℕ) → a ≡ s ∷ ss → b ≡ x ∷ xs → opens free s ≡ false → opened free a b ≡ opened free ss xs
+  unfolding opened
+  opened_not a ss b xs s x e f h = ap₂ (opened free) e f ∙ ap (λ v. cond v (record { name = s.name; link = x } ∷ opened free ss xs) (opened free ss xs)) h
+
+  pub opened_end : (a : List Standing) (b : List ℕ) → length a ≡ 0 → opened free a b ≡ []
+  unfolding opened
+  opened_end [] b h = refl
+  opened_end (s ∷ ss) b h = absurd (omega arith)

@@ -1,44 +1,38 @@
 -- A text without fault on a sound plan.
-use Rattle.std.proofs.Common.{◌≡◌, ℕ, ◌+◌, ◌-◌, ◌<◌, ◌≤◌, min, Bool, true, false, cond, ◌&&◌, ltb, leb, List, [], map, length, take, None, Ok, Err, sym, refl, ap, ◌∙◌, subst, ap₂, ⊎_elim, arith, length-take}
+use Rattle.std.proofs.Common.{◌≡◌, ℕ, ◌+◌, ◌<◌, ◌≤◌, min, Bool, true, false, ◌&&◌, ltb, leb, List, [], map, length, take, None, Ok, sym, refl, ap, ◌∙◌, subst, ap₂, ⊎_elim, arith, length-take}
 use Rattle.std.proofs.lemmas.List.{length-map}
 use Rattle.std.proofs.lemmas.Bool.{and_from, and_parts, both_ways, cases_lt, cond-false, cond-true, le-leb, le-ltb, leb-true, lt-ltb}
-use Rattle.fault.specs.declared.Refusal.TheVariants.{UnsoundPlan, FullTables}
 use Rattle.label.specs.Kind.{Kind, Lawful}
 use Rattle.text.specs.declared.packed.Name.{Name}
 use Rattle.text.specs.Tokens as tokens
 use Rattle.grammar.specs.declared.reader.Reader.{Reader}
 use Rattle.grammar.specs.declared.stand.Standing.{Standing}
 use Rattle.grammar.specs.declared.sheet.Sheet.{Sheet}
-use Rattle.grammar.specs.Laws.{fault_of, spots, state_after}
-use Rattle.grammar.specs.Names.{names_of}
-use Rattle.grammar.specs.Pull.{Begun, final, left, view}
+use Rattle.grammar.specs.Laws.{fault_of}
+use Rattle.grammar.specs.Pull.{Begun, left}
 use Rattle.grammar.specs.Reading.{Events, event, end, fault, at_place, events_from, hang_events}
 use Rattle.grammar.specs.Sheets.{text_names}
-use Rattle.grammar.specs.State.{State, start}
-use Rattle.plan.specs.declared.tables.FreeLink.{FreeLink}
+use Rattle.grammar.specs.State.{start}
 use Rattle.plan.specs.declared.tables.Plan.{Plan}
 use Rattle.plan.specs.Model.{Model, model_of, node_of}
 use Rattle.plan.specs.Places.{Filed}
 use Rattle.plan.specs.Sound.{Sound, counts_fit, room}
-use Rattle.plan.specs.Tests.{sound_test}
-use Rattle.placing.specs.Answer.{hang_answer, hung_text, takes, unless_fault}
+use Rattle.placing.specs.Answer.{hung_text, takes}
 use Rattle.placing.specs.Counts.{SheetCounts, cells_in, labels_in}
 use Rattle.placing.specs.Keeps.{SoundModel}
 use Rattle.placing.specs.Laws.{HangLaws}
-use Rattle.placing.specs.Links.{free_after, link_at}
-use Rattle.placing.specs.Orderly.{may_come, orderly, depth_after, halfway, ports_after}
-use Rattle.placing.specs.Placing.{begun, links_in, place_all, refreed}
+use Rattle.placing.specs.Links.{link_at}
+use Rattle.grammar.specs.Events.{depth_after}
+use Rattle.placing.specs.Orderly.{may_come, orderly, halfway, ports_after}
+use Rattle.placing.specs.Placing.{begun, links_in}
 use Rattle.placing.proofs.Counting.{events_right}
 use Rattle.placing.proofs.HangLaws.{hang_laws}
 use Rattle.placing.proofs.HangSound.{hang_sound}
 use Rattle.placing.proofs.KeepGoing.{goes_from}
-use Rattle.placing.proofs.KeepNames.{length_links}
 use Rattle.placing.proofs.KeepPlan.{model_sound, plan_sound}
 use Rattle.hang.specs.Hand.{Placeable, Placed, fresh_hand}
 use Rattle.hang.specs.Labels.{all_mine, is_mine, lacking}
-use Rattle.hang.specs.Rows.{Filled}
-use Rattle.hang.specs.Text.{Hangable, atoms_fit, cells_fit, free_fit, has_room, labels_fit}
-use Rattle.hang.proofs.Filling.{filled_whole}
+use Rattle.hang.specs.Text.{Hangable, atoms_fit, cells_fit, free_fit, has_room, if_room, labels_fit}
 use Rattle.hang.proofs.Lacking.{lacks}
 use Rattle.hang.proofs.Registering.{register_filed}
 use Rattle.hang.proofs.Stepping.{adding_keeps, mine_comes}
@@ -92,11 +86,6 @@ third true true false true p q r = refl
 third true true c false p q r = absurd (both_ways false refl r)
 third true false c d p q r = absurd (both_ways false refl q)
 third false b c d p q r = absurd (both_ways false refl p)
-
--- after the whole text the reader has its names
-pub names_read : (text : List ℕ) (a b : Reader) → Begun 0 text a → view b ≡ final a → names_of b.names ≡ text_names text
-names_read text a b h e =
-    ap (λ (st : State). st.names) (e ∙ ap₂ state_after h.2 (ap₂ (λ at s. spots (tokens.tokens 0 at s)) h.1 h.0))
 
 module _ {L : Type 0} (k : Kind L) (law : Lawful k) (p : Plan L) (text : List ℕ) (h : Hangable k p text) where
   abbrev es : Events L
@@ -154,15 +143,6 @@ module _ {L : Type 0} (k : Kind L) (law : Lawful k) (p : Plan L) (text : List �
         arities = h.sound.ports;
       }
 
-  -- the free links after the text, as they are listed
-  pub free_listed : (out : List FreeLink) (n : ℕ) → Filled out n (free_after (model_of p).free (text_names text) (links_in (model_of p) (text_names text))) → length (hung_text k m text).free ≡ n
-  free_listed out n f =
-      let b = (place_all k link (begun m) es).became in
-      length-map (free_after m.free (text_names text) (links_in m (text_names text))) (refreed b) ∙ sym f.count
-
-  pub free_test : (out : List FreeLink) (n : ℕ) → Filled out n (free_after (model_of p).free (text_names text) (links_in (model_of p) (text_names text))) → leb (0 + n) (min (length p.free.now) 64) ≡ free_fit k p text
-  free_test out n f = let e : 0 + n ≡ length (hung_text k m text).free = (omega arith) ∙ sym (free_listed out n f) in ap (λ j. leb j (min (length p.free.now) 64)) e
-
   -- the tests of the code
   pub room_test : (s : Sheet) → SheetCounts k text s → has_room p s.atoms s.cells ≡ (atoms_fit k p text && cells_fit k p text)
   room_test s sc =
@@ -177,6 +157,9 @@ module _ {L : Type 0} (k : Kind L) (law : Lawful k) (p : Plan L) (text : List �
 
   pub label_test : (n : ℕ) → n ≡ length (lacking k (model_of p).register [] (hang_events k 0 text)) → leb (p.label_count + n) (min (length p.register.now) 1024) ≡ labels_fit k p text
   label_test n e = ap (λ j. leb j (min (length p.register.now) 1024)) (ap (λ j. p.label_count + j) e ∙ sym labels_after)
+
+  pub read_labels : (rd : Reader) (n : ℕ) → Begun 0 text rd → n ≡ length (lacking k (model_of p).register [] (left k rd)) → leb (p.label_count + n) (min (length p.register.now) 1024) ≡ labels_fit k p text
+  read_labels rd n b e = label_test n (e ∙ ap (λ es. length (lacking k (model_of p).register [] es)) (begun_left k text rd h.short b))
 
   pub no_labels : labels_fit k p text ≡ false → takes p (hung_text k (model_of p) text) ≡ false
   no_labels f = last_fails (atoms_fit k p text) (cells_fit k p text) (free_fit k p text) (labels_fit k p text) f
@@ -209,23 +192,13 @@ module _ {L : Type 0} (k : Kind L) (law : Lawful k) (p : Plan L) (text : List �
       (le-leb q.label_count (min (length q.register.now) 1024) (omega arith)))) in
       plan_sound k q fit g.arities (subst (SoundModel k) (sym e) (hang_sound k law m text (model_sound k p h.sound) h.clean (omega arith) (omega arith)))
 
-pub links_long : {L : Type 0} (m : Model L) (names : List Standing) → length (links_in m names) ≡ length names
-links_long m names = length_links m.free _ names
-
 -- what the code hands on: the names of the text, and their links
-module _ {L : Type 0} (m : Model L) (text : List ℕ) (ns : List Standing) (e : ns ≡ text_names text) (count : ℕ) (n : count ≡ length ns) (links : List ℕ) (l : take (length ns) links ≡ links_in m ns) where
-  pub handed : take (count - 0) links ≡ links_in m (text_names text)
-  handed = let z : count - 0 ≡ length ns = omega arith in ap (λ j. take j links) z ∙ l ∙ ap (links_in m) e
+module _ {L : Type 0} (m : Model L) (text : List ℕ) (ns : List Standing) (links : List ℕ) (e : ns ≡ text_names text) (l : links ≡ links_in m ns) where
+  handed : links ≡ links_in m (text_names text)
+  handed = l ∙ ap (links_in m) e
 
-  pub handed_link : link_at ns (take (count - 0) links) ≡ link_at (text_names text) (links_in m (text_names text))
+  pub handed_link : link_at ns links ≡ link_at (text_names text) (links_in m (text_names text))
   handed_link = ap₂ link_at e handed
-
-  pub handed_free : (free out : List FreeLink) (k : ℕ) → Filled out k (free_after free ns (take (count - 0) links)) → Filled out k (free_after free (text_names text) (links_in m (text_names text)))
-  handed_free free out k f = subst (λ t. Filled out k (free_after free (text_names text) t)) handed (subst (λ t. Filled out k (free_after free t (take (count - 0) links))) e f)
-
--- the rows that are written
-pub written_free : (out : List FreeLink) (n : ℕ) (xs : List FreeLink) → length out ≡ 64 → n ≤ 64 → Filled out n xs → take (n - 0) out ≡ xs
-written_free out n xs l h f = let z : n - 0 ≡ n = omega arith in let c = f.count in ap (λ j. take j out) z ∙ filled_whole out n xs f (omega arith)
 
 pub clean_short : {L : Type 0} (k : Kind L) (text : List ℕ) → fault_of (hang_events k 0 text) ≡ None → length text ≤ 65535
 clean_short {L} k text e =
@@ -241,8 +214,6 @@ clean_short {L} k text e =
 pub hangable : {L : Type 0} (k : Kind L) (p : Plan L) (text : List ℕ) (s : Sheet) → Sound k p → SheetCounts k text s → Hangable k p text
 hangable k p text s sound sc = record { sound = sound; clean = sc.clean; short = clean_short k text sc.clean }
 
-pub accepted : {L : Type 0} (k : Kind L) (p : Plan L) (text : List ℕ) → fault_of (hang_events k 0 text) ≡ None → sound_test k p ≡ true → takes p (hung_text k (model_of p) text) ≡ true → Ok tt ≡ hang_answer k p text
-accepted k p text c s t =
-    sym (ap (λ o. unless_fault o (cond (sound_test k p) (cond (takes p (hung_text k (model_of p) text)) (Ok tt) (Err (record { refusal = FullTables; place = 0 }))) (Err (record { refusal = UnsoundPlan; place = 0 })))) c
-    ∙ ap (λ v. cond v (cond (takes p (hung_text k (model_of p) text)) (Ok tt) (Err (record { refusal = FullTables; place = 0 }))) (Err (record { refusal = UnsoundPlan; place = 0 }))) s
-    ∙ ap (λ v. cond v (Ok tt) (Err (record { refusal = FullTables; place = 0 }))) t)
+pub room_there : (b : Bool) → Ok tt ≡ if_room b → b ≡ true
+room_there true e = refl
+room_there false e = let z : ◌≡◌ {A = ℕ} 0 1 = cc in absurd (omega arith)

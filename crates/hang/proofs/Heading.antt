@@ -1,23 +1,12 @@
 -- The head of a reader's events.
-use Rattle.std.proofs.Common.{◌≡◌, ℕ, true, false, Some, None, Ok, Err, Option, sym, refl, ap, arith}
-use Rattle.fault.specs.declared.Fault.{Fault}
+use Rattle.std.proofs.Common.{◌≡◌, ℕ, true, false, None, refl, arith}
 use Rattle.std.proofs.lemmas.Bool.{both_ways}
 use Rattle.label.specs.Kind.{Kind}
 use Rattle.text.specs.declared.packed.Name.{Name}
-use Rattle.grammar.specs.declared.event.Event.{Event}
-use Rattle.grammar.specs.declared.reader.Reader.{Reader}
 use Rattle.grammar.specs.Laws.{fault_of}
-use Rattle.grammar.specs.Pull.{ComesTo, Goes, given, left}
 use Rattle.grammar.specs.Reading.{Events, event, end, fault}
 use Rattle.placing.specs.Placing.{Placing, place_all}
-use Rattle.hang.specs.Next.{Heads, halted}
-
-pub heads : {L : Type 0} (k : Kind L) (a b : Reader) (o : Option (Event L)) → given k (Ok o) b ≡ left k a → Goes k (Ok o) a b → ComesTo {L = L} (Ok o) a b → Heads k a o b
-heads k a b (Some e) is goes comes = (is, goes, comes)
-heads k a b None is goes comes = (ap halted (sym is), λ _. comes)
-
-pub headless : {L : Type 0} (k : Kind L) (a b : Reader) (f : Fault) → given k (Err f) b ≡ left k a → Heads k a None b
-headless k a b f is = (ap halted (sym is), λ e. let z : ◌≡◌ {A = ℕ} 0 1 = cc in absurd (omega arith))
+use Rattle.hang.specs.Next.{halted}
 
 -- where no event comes and there is no fault, the text ends
 pub ends_there : {L : Type 0} (es : Events L) → halted es ≡ true → fault_of es ≡ None → es ≡ end

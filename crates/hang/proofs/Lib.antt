@@ -1,11 +1,11 @@
-pub mod Assigning
-pub mod Filling
 pub mod Freeing
+pub mod Hanging
+pub mod Heading
 pub mod Labelling
-pub mod Relinking
+pub mod Lacking
+pub mod Linking
+pub mod Numbers
 pub mod Ported
 pub mod Registering
+pub mod Relinking
 pub mod Stepping
-pub mod Heading
-pub mod Lacking
-pub mod Hanging

@@ -7,7 +7,8 @@ use Rattle.plan.specs.declared.tables.Atom.{Atom}
 use Rattle.plan.specs.declared.tables.Census.{Census}
 use Rattle.plan.specs.Model.{Node, node_of}
 use Rattle.plan.specs.Places.{Filed}
-use Rattle.plan.specs.Sound.{alike, ascending, atoms_of, each, row_right}
+use Rattle.std.specs.List.{list_all}
+use Rattle.plan.specs.Sound.{alike, ascending, atoms_of, row_right}
 use Rattle.plan.specs.Tests.{register_test}
 use Rattle.register.proofs.Counting.{each_from, right_mine}
 
@@ -22,13 +23,13 @@ module _ {L : Type 0} (k : Kind L) where
   pub register_filed : (nodes : List (Node L)) (rows : List (Census L)) → register_test k nodes rows ≡ true → Filed k rows
   register_filed nodes rows h =
       let a = and_parts (ascending k rows) _ h in
-      let b = and_parts (each (row_right k nodes) rows) _ a.1 in
+      let b = and_parts (list_all (row_right k nodes) rows) _ a.1 in
       record { order = a.0; known = right_mine k nodes rows b.0 }
 
-  pub register_fits : (nodes : List (Node L)) (rows : List (Census L)) → length nodes ≤ 1024 → register_test k nodes rows ≡ true → each (λ c. ltb c.atoms 65535) rows ≡ true
+  pub register_fits : (nodes : List (Node L)) (rows : List (Census L)) → length nodes ≤ 1024 → register_test k nodes rows ≡ true → list_all (λ c. ltb c.atoms 65535) rows ≡ true
   register_fits nodes rows few h =
       let a = and_parts (ascending k rows) _ h in
-      let b = and_parts (each (row_right k nodes) rows) _ a.1 in
+      let b = and_parts (list_all (row_right k nodes) rows) _ a.1 in
       each_from (row_right k nodes) (λ c. ltb c.atoms 65535) rows
       (λ c r.
       let parts = and_parts (k.mine c.label) _ r in

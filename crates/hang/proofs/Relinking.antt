@@ -1,11 +1,10 @@
 -- Loops that put links in place of others.
-use Rattle.std.proofs.Common.{◌≡◌, ℕ, ◌+◌, ◌<◌, ◌≤◌, ◌&&◌, leb, List, [], ◌∷◌, ◌++◌, map, length, get_or, take, drop, set, sym, refl, ap, ◌∙◌, ap₂, append-nil, arith, length-take}
-use lib.Seq.{take-append-le}
-use Rattle.std.proofs.lemmas.List.{get_or_default, drop_all, length-map, map_push, take_all, take_more, take_more_set, take-map}
+use Rattle.std.proofs.Common.{◌≡◌, ℕ, ◌+◌, ◌<◌, ◌≤◌, ◌&&◌, leb, List, [], ◌∷◌, ◌++◌, map, length, get_or, take, drop, set, refl, ap, ◌∙◌, ap₂, append-nil, arith}
+use Rattle.std.proofs.lemmas.List.{get_or_default, drop_all, take_all, take-map}
 use Rattle.std.proofs.lemmas.List.Edits.{map_over_more}
 use Rattle.plan.specs.declared.tables.Atom.{Atom}
 use Rattle.plan.specs.Model.{Node, node_of}
-use Rattle.plan.specs.Sound.{each}
+use Rattle.std.specs.List.{list_all}
 use Rattle.placing.specs.Placing.{become, relinked}
 
 -- the next element is written
@@ -17,13 +16,6 @@ map_next f xs ys i d v l n e h =
 pub map_done : {X : Type 0} (f : X → X) (xs ys : List X) (i : ℕ) → length xs ≤ i → ys ≡ map f (take i xs) ++ drop i xs → ys ≡ map f xs
 map_done f xs ys i l e = e ∙ ap₂ (λ s t. map f s ++ t) (take_all i xs l) (drop_all i xs l) ∙ append-nil (map f xs)
 
--- the first are written
-pub map_front : {X : Type 0} (f : X → X) (xs ys : List X) (i : ℕ) → i ≤ length xs → ys ≡ map f (take i xs) ++ drop i xs → take i ys ≡ map f (take i xs)
-map_front f xs ys i l e =
-    let n = length-map (take i xs) f in
-    let t = length-take i xs in
-    ap (take i) e ∙ take-append-le i (map f (take i xs)) (drop i xs) (omega arith) ∙ take_all i (map f (take i xs)) (omega arith)
-
 abbrev pub relinked_atom : {L : Type 0} → List ℕ → Atom L → Atom L
 relinked_atom became a = record { label = a.label; cell = a.cell; arity = a.arity; links = map (become became) a.links }
 
@@ -33,12 +25,6 @@ nodes_relinked became [] = refl
 nodes_relinked {L} became (a ∷ atoms) =
     ap₂ (λ ls (t : List (Node L)). record { label = a.label; cell = a.cell; links = ls } ∷ t) (take-map (become became) a.arity a.links) (nodes_relinked became atoms)
 
-pub arities_kept : {L : Type 0} (became : List ℕ) (atoms : List (Atom L)) → each (λ a. leb a.arity 8) (map (relinked_atom became) atoms) ≡ each (λ a. leb a.arity 8) atoms
-unfolding each
+pub arities_kept : {L : Type 0} (became : List ℕ) (atoms : List (Atom L)) → list_all (λ a. leb a.arity 8) (map (relinked_atom became) atoms) ≡ list_all (λ a. leb a.arity 8) atoms
 arities_kept became [] = refl
 arities_kept became (a ∷ atoms) = ap (λ b. leb a.arity 8 && b) (arities_kept became atoms)
-
--- one row more is written elsewhere
-pub copied_next : {X Y : Type 0} (f : X → Y) (xs : List X) (ys : List Y) (i : ℕ) (d : X) (v : Y) → i < length xs → i < length ys → take i ys ≡ map f (take i xs) → v ≡ f (get_or xs i d) → take (i + 1) (set ys i v) ≡ map f (take (i + 1) xs)
-copied_next f xs ys i d v l m e h =
-    take_more_set ys i v m ∙ ap₂ (λ s x. s ++ (x ∷ [])) e h ∙ sym (map_push f (take i xs) (get_or xs i d)) ∙ ap (map f) (sym (take_more xs i d l))

@@ -10,9 +10,10 @@ use Rattle.grammar.specs.Reading.{Events, event, end, fault}
 use Rattle.plan.specs.declared.tables.Plan.{Plan}
 use Rattle.plan.specs.Model.{Node, SameTables, model_of, node_of}
 use Rattle.register.proofs.Adding.{added_longer, adding}
-use Rattle.placing.specs.Counts.{cells_at, labels_at, summed}
+use Rattle.grammar.specs.Events.{summed, depth_after, proper_name}
+use Rattle.placing.specs.Counts.{cells_at, labels_at}
 use Rattle.placing.specs.Keeps.{AddingKeeps}
-use Rattle.placing.specs.Orderly.{depth_after, halfway, may_come, orderly, ports_after, proper_name}
+use Rattle.placing.specs.Orderly.{halfway, may_come, orderly, ports_after}
 use Rattle.placing.specs.Placing.{Placing, place_all, place_one}
 use Rattle.placing.proofs.KeepAtoms.{last_fits}
 use Rattle.placing.proofs.KeepGoing.{Going, goes}

@@ -1,13 +1,16 @@
 -- A plan and a hand, while the events of a text are placed.
-use Rattle.std.specs.Prelude.{◌≡◌, ℕ, ◌+◌, ◌<◌, ◌≤◌, min, Bool, true, List, [], ◌∷◌, length, take, nat_le}
+use Rattle.std.specs.Prelude.{◌≡◌, ℕ, ◌+◌, ◌<◌, ◌≤◌, min, Bool, true, List, [], ◌∷◌, length, take, nat_le, slice_set}
 use Rattle.label.specs.Kind.{Kind}
 use Rattle.text.specs.declared.packed.Name.{Name}
 use Rattle.grammar.specs.declared.event.Event.{Event}
 use Rattle.grammar.specs.declared.event.Event.TheVariants as events
 use Rattle.grammar.specs.Reading.{Events}
+use Rattle.plan.specs.declared.tables.Atom.{Atom}
 use Rattle.plan.specs.declared.tables.Plan.{Plan}
 use Rattle.plan.specs.Model.{Node, SameTables, model_of}
-use Rattle.plan.specs.Sound.{atom_limit, cell_limit, each, link_limit, port_limit, rows}
+use Rattle.std.specs.List.{list_all}
+use Rattle.text.specs.Limits.{port_limit}
+use Rattle.plan.specs.Sound.{atom_limit, cell_limit, link_limit, rows}
 use Rattle.plan.specs.Tests.{register_test}
 use Rattle.register.specs.Rows.{added}
 use Rattle.placing.specs.Counts.{cells_at, cells_in, labels_at, labels_in}
@@ -27,9 +30,13 @@ last_ports [] = 0
 last_ports (a ∷ []) = length a.links
 last_ports (a ∷ (b ∷ atoms)) = last_ports (b ∷ atoms)
 
+-- an atom with one port more
+abbrev pub ported : {L : Type 0} → ℕ → Atom L → Atom L
+ported x a = record { label = a.label; cell = a.cell; arity = a.arity + 1; links = slice_set a.links a.arity x }
+
 -- no atom has too many ports
 abbrev pub arities_fit : {L : Type 0} → Plan L → Bool
-arities_fit p = each (λ a. nat_le a.arity port_limit) (take p.atom_count p.atoms.now)
+arities_fit p = list_all (λ a. nat_le a.arity port_limit) (take p.atom_count p.atoms.now)
 
 -- a port comes after an atom that has fewer than eight
 abbrev pub PortRoom : {L : Type 0} → List (Node L) → Event L → Type 0
@@ -60,7 +67,7 @@ pub record Ready {L : Type 0} (k : Kind L) (p : Plan L) (e : Event L) : Type 0 w
   pub labels : LabelRoom k p e
   pub port : PortRoom (model_of p).atoms e
   pub mine : is_mine k e ≡ true
-  pub known : each (λ a. k.mine a.label) (model_of p).atoms ≡ true
+  pub known : list_all (λ a. k.mine a.label) (model_of p).atoms ≡ true
   pub register : register_test k (model_of p).atoms (model_of p).register ≡ true
   pub arities : arities_fit p ≡ true
 

@@ -1,5 +1,7 @@
 -- The labels of a text that a register lacks. They are listed by their tokens, which tell them apart.
-use Rattle.std.specs.Prelude.{ℕ, Bool, true, false, cond, ◌&&◌, ◌||◌, List, [], ◌∷◌, ◌++◌, length, drop, replicate, Some, None, Option, ◌==◌}
+use Rattle.std.specs.Prelude.{ℕ, Bool, true, false, cond, ◌&&◌, ◌||◌, List, [], ◌∷◌, ◌++◌, Option}
+use Rattle.std.specs.List.{list_any}
+use Rattle.std.specs.Option.{option_eq}
 use Rattle.std.specs.Str.{bytes_eq}
 use Rattle.label.specs.declared.form.Form.{Form}
 use Rattle.label.specs.declared.form.Form.TheVariants.{Word, Number}
@@ -9,15 +11,6 @@ use Rattle.grammar.specs.declared.event.Event.TheVariants as events
 use Rattle.grammar.specs.Reading.{Events, event, end, fault}
 use Rattle.plan.specs.declared.tables.Census.{Census}
 use Rattle.plan.specs.Sound.{registered}
-use Rattle.hang.specs.declared.spelled.Spelled.{Spelled}
-
-abbrev pub spelled_token : Option (Form × List ℕ) → Spelled
-spelled_token None = record { form = Word; length = 0; bytes = replicate 11 0 }
-spelled_token (Some t) = record { form = t.0; length = length t.1; bytes = t.1 ++ drop (length t.1) (replicate 11 0) }
-
--- a label by its token: the class, how many bytes, and the bytes with zeros after them
-abbrev pub spelled : {L : Type 0} → Kind L → L → Spelled
-spelled k l = spelled_token (k.token l)
 
 abbrev pub same_form : Form → Form → Bool
 same_form Word Word = true
@@ -25,17 +18,17 @@ same_form Word Number = false
 same_form Number Word = false
 same_form Number Number = true
 
-abbrev pub same : Spelled → Spelled → Bool
-same a b = same_form a.form b.form && (a.length == b.length && bytes_eq a.bytes b.bytes)
+-- two tokens are the same
+abbrev pub same : Option (Form × List ℕ) → Option (Form × List ℕ) → Bool
+same = option_eq (λ a b. same_form a.0 b.0 && bytes_eq a.1 b.1)
 
 -- a token is one of those listed
-unfoldable pub known : Spelled → List Spelled → Bool
-known t [] = false
-known t (x ∷ xs) = same t x || known t xs
+abbrev pub known : Option (Form × List ℕ) → List (Option (Form × List ℕ)) → Bool
+known t ts = list_any (λ x. same x t) ts
 
 -- a label is listed unless the register or the list has it
-abbrev pub noted_label : {L : Type 0} → Kind L → List (Census L) → List Spelled → Event L → List Spelled
-noted_label k register ts (events.Label l) = cond (registered k l register || known (spelled k l) ts) ts (ts ++ (spelled k l ∷ []))
+abbrev pub noted_label : {L : Type 0} → Kind L → List (Census L) → List (Option (Form × List ℕ)) → Event L → List (Option (Form × List ℕ))
+noted_label k register ts (events.Label l) = cond (registered k l register || known (k.token l) ts) ts (ts ++ (k.token l ∷ []))
 noted_label k register ts (events.Port n) = ts
 noted_label k register ts events.Enter = ts
 noted_label k register ts events.Leave = ts
@@ -43,8 +36,8 @@ noted_label k register ts (events.Set j) = ts
 noted_label k register ts (events.First n) = ts
 noted_label k register ts (events.Second n) = ts
 
--- the labels of events that the register lacks
-unfoldable pub lacking : {L : Type 0} → Kind L → List (Census L) → List Spelled → Events L → List Spelled
+-- the tokens of the labels of events that the register lacks
+unfoldable pub lacking : {L : Type 0} → Kind L → List (Census L) → List (Option (Form × List ℕ)) → Events L → List (Option (Form × List ℕ))
 lacking k register ts (event e rest) = lacking k register (noted_label k register ts e) rest
 lacking k register ts end = ts
 lacking k register ts (fault f) = ts

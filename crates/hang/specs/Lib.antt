@@ -1,5 +1,5 @@
-pub mod Rows
 pub mod Labels
+pub mod Linked
 pub mod Hand
 pub mod Next
 pub mod Text

@@ -1,5 +1,7 @@
 -- A text without fault on a sound plan.
-use Rattle.std.specs.Prelude.{◌≡◌, ℕ, ◌+◌, ◌≤◌, Bool, true, false, ◌&&◌, List, length, None, nat_le}
+use Rattle.std.specs.Prelude.{◌≡◌, ℕ, ◌+◌, ◌≤◌, Bool, cond, ◌&&◌, List, length, None, Ok, Err, Result, MatchResult, nat_le}
+use Rattle.fault.specs.declared.Refusal.{Refusal}
+use Rattle.fault.specs.declared.Refusal.TheVariants.{FullTables}
 use Rattle.label.specs.Kind.{Kind}
 use Rattle.grammar.specs.Laws.{fault_of}
 use Rattle.grammar.specs.Reading.{hang_events}
@@ -33,7 +35,11 @@ free_fit k p text = nat_le (length (hung_text k (model_of p) text).free) (room f
 abbrev pub labels_fit : {L : Type 0} → Kind L → Plan L → List ℕ → Bool
 labels_fit k p text = nat_le (length (hung_text k (model_of p) text).register) (room label_limit p.register.now)
 
+-- refused where the tables have no room
+abbrev pub if_room : Bool → Result (Unit {0}) Refusal
+if_room b = cond b (Ok tt) (Err FullTables)
+
 -- the text was placed, or the tables are as they were
-abbrev pub Hung : {L : Type 0} → Kind L → Plan L → List ℕ → Bool → Plan L → Type 0
-Hung k p text true q = (model_of q ≡ hung_text k (model_of p) text) × Placed p q
-Hung k p text false q = (tables_of q ≡ tables_of p) × SameTables p q
+abbrev pub Hung : {L : Type 0} → Kind L → Plan L → List ℕ → Result (Unit {0}) Refusal → Plan L → Type 0
+Hung k p text r q =
+    MatchResult r (λ _. (model_of q ≡ hung_text k (model_of p) text) × Placed p q) (λ _. (tables_of q ≡ tables_of p) × SameTables p q)

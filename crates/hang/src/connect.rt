@@ -1,7 +1,7 @@
 //! Absorbing connectors.
 ghost use Rattle.std.specs.Prelude.{◌≡◌, ◌≤◌, true, map, length, take, nat_le};
 ghost use Rattle.plan.specs.Model.{node_of};
-ghost use Rattle.plan.specs.Sound.{each};
+ghost use Rattle.std.specs.List.{list_all};
 ghost use Rattle.placing.specs.Placing.{become as becomes, joined, put as puts, refreed, relinked};
 
 use label::kind::Label;
@@ -18,15 +18,11 @@ fn put(from: u16, to: u16, link: u16) -> u16
 fn become_of(became: &[u16], link: u16) -> u16
     ensures { result ≡ becomes became.now link }
 {
-    let row = link as usize;
-    if row < became.len() {
-        became[row]
-    } else {
-        link
-    }
+    became.get(usize::from(link)).copied().unwrap_or(link)
 }
 
 /// A connector: the second link stands for the first.
+#[tactic(auto, using(crate::proofs::Relinking::map_next))]
 pub(crate) fn join(became: &mut [u16], first: u16, second: u16)
     ensures { became.new ≡ joined first second became.old }
 {
@@ -38,6 +34,7 @@ pub(crate) fn join(became: &mut [u16], first: u16, second: u16)
 }
 
 /// Puts what each link has become in its place.
+#[tactic(auto, using(crate::proofs::Relinking::map_next))]
 fn relink_ports(links: &mut [u16], became: &[u16])
     ensures { links.new ≡ map (becomes became.now) links.old }
 {
@@ -46,41 +43,22 @@ fn relink_ports(links: &mut [u16], became: &[u16])
     }
 }
 
-/// An atom whose ports lie on what their links have become.
-fn relink<L: Label>(atom: Atom<L>, became: &[u16]) -> Atom<L>
-    ensures { result ≡ record { label = atom.label; cell = atom.cell; arity = atom.arity; links = map (becomes became.now) atom.links } }
+/// Puts the ports of atoms on what their links have become.
+pub(crate) fn relink_atoms<L: Label>(atoms: &mut [Atom<L>], became: &[u16])
+    ensures atoms { map node_of atoms.new ≡ map (relinked became.now) (map node_of atoms.old) }
+    ensures fit { list_all (λ a. nat_le a.arity 8) atoms.new ≡ list_all (λ a. nat_le a.arity 8) atoms.old }
 {
-    let mut links = atom.links;
-    relink_ports(&mut links, became);
-    Atom {
-        label: atom.label,
-        cell: atom.cell,
-        arity: atom.arity,
-        links,
+    for atom in atoms.iter_mut() {
+        relink_ports(&mut atom.links, became);
     }
 }
 
-/// Puts the ports of the first `count` atoms on what their links have become.
-pub(crate) fn relink_atoms<L: Label>(atoms: &mut [Atom<L>], count: usize, became: &[u16])
-    requires within { count ≤ length atoms.old }
-    requires fit { each (λ a. nat_le a.arity 8) (take count atoms.old) ≡ true }
-    ensures atoms { map node_of (take count atoms.new) ≡ map (relinked became.now) (map node_of (take count atoms.old)) }
-    ensures fit { each (λ a. nat_le a.arity 8) (take count atoms.new) ≡ true }
+/// Puts free links on what their links have become.
+#[tactic(auto, using(crate::proofs::Relinking::map_next))]
+pub(crate) fn relink_free(free: &mut [FreeLink], became: &[u16])
+    ensures { free.new ≡ map (refreed became.now) free.old }
 {
-    for i in 0..count {
-        atoms[i] = relink(atoms[i], became);
-    }
-}
-
-/// Writes free links to the front of a table, each on what its link has become.
-pub(crate) fn write_free(from: &[FreeLink], became: &[u16], to: &mut [FreeLink])
-    requires { length from.now ≤ length to.old }
-    ensures { take (length from.now) to.new ≡ map (refreed became.now) from.now }
-{
-    for i in 0..from.len() {
-        to[i] = FreeLink {
-            name: from[i].name,
-            link: become_of(became, from[i].link),
-        };
+    for row in free.iter_mut() {
+        row.link = become_of(became, row.link);
     }
 }

@@ -1,40 +1,27 @@
 //! Hanging a text on a plan.
-ghost use Rattle.std.specs.Prelude.{◌≡◌, ◌+◌, ◌^◌, ◌<◌, ◌≤◌, min, true, false, ◌&&◌, [], length, take, is_ok, None, MatchResult, nat_le};
-ghost use Rattle.grammar.specs.Laws.{fault_of};
+ghost use Rattle.std.specs.Prelude.{◌≡◌, ◌+◌, min, true, is_ok, MatchResult, nat_le};
 ghost use Rattle.grammar.specs.Names.{names_of};
-ghost use Rattle.grammar.specs.Pull.{Begun, left};
-ghost use Rattle.grammar.specs.Reading.{hang_events};
 ghost use Rattle.grammar.specs.Sheets.{text_names};
 ghost use Rattle.plan.specs.Model.{SameTables, model_of, tables_of};
-ghost use Rattle.plan.specs.Sound.{Sound, atom_limit, cell_limit, free_limit, label_limit, room};
+ghost use Rattle.plan.specs.Sound.{Sound};
 ghost use Rattle.placing.specs.Answer.{hang_answer, hung_text, takes};
 ghost use Rattle.placing.specs.Counts.{SheetCounts};
 ghost use Rattle.placing.specs.Laws.{HangLaws};
-ghost use Rattle.placing.specs.Links.{free_after};
-ghost use Rattle.hang.specs.Rows.{Filled};
-ghost use Rattle.hang.specs.Text.{Hangable, Hung, atoms_fit, cells_fit, free_fit, has_room, labels_fit};
+ghost use Rattle.hang.specs.Text.{Hangable, Hung, atoms_fit, cells_fit, free_fit, has_room, if_room, labels_fit};
 
 use crate::free::list_free;
 use crate::labels::count_lacking;
-use crate::names::{link_names, name_count};
+use crate::names::link_names;
 use crate::whole::place_text;
 use fault::{Fault, Refusal};
-use grammar::limits::TEXT_LIMIT;
 use grammar::read::read;
 use grammar::reader::Reader;
 use grammar::sheet::Sheet;
 use grammar::table::Names;
 use label::kind::Label;
 use plan::check::is_sound;
-use plan::limits::{ATOM_LIMIT, CELL_LIMIT, FREE_LIMIT, LABEL_LIMIT};
-use plan::tables::{FreeLink, Plan};
-use text::packed::Name;
-
-/// What stands in a row of free links that is not used.
-const NO_LINK: FreeLink = FreeLink {
-    name: Name { packed: 0 },
-    link: 0,
-};
+use plan::limits::{ATOM_LIMIT, CELL_LIMIT, LABEL_LIMIT};
+use plan::tables::Plan;
 
 /// Whether a table takes some rows more.
 fn fits(count: usize, more: usize, rows: usize, limit: usize) -> bool
@@ -48,65 +35,44 @@ fn fits(count: usize, more: usize, rows: usize, limit: usize) -> bool
 fn has_room<L: Label>(plan: &Plan<'_, L>, sheet: Sheet) -> bool
     ensures { result ≡ has_room plan.now sheet.atoms sheet.cells }
 {
-    let atoms = &*plan.atoms;
-    let cells = &*plan.cells;
-    fits(plan.atom_count, sheet.atoms, atoms.len(), ATOM_LIMIT)
-        && fits(plan.cell_count, sheet.cells, cells.len(), CELL_LIMIT)
-}
-
-/// Lists the free links of the plan after a text, and gives how many there are.
-fn draft_free<L: Label>(
-    plan: &Plan<'_, L>,
-    names: &Names,
-    links: &[u16],
-    out: &mut [FreeLink],
-) -> usize
-    requires within { plan.now.free_count ≤ length plan.now.free.now }
-    requires few { plan.now.free_count ≤ 65535 }
-    requires same { length links.now ≡ length (names_of names.now) }
-    ensures { Filled out.new result (free_after (model_of plan.now).free (names_of names.now) links.now) }
-{
-    let free = &*plan.free;
-    list_free(&free[0..plan.free_count], names, links, out)
+    fits(plan.atom_count, sheet.atoms, plan.atoms.len(), ATOM_LIMIT)
+        && fits(plan.cell_count, sheet.cells, plan.cells.len(), CELL_LIMIT)
 }
 
 /// Places a text whose atoms, cells and labels have room, unless its free links have none.
-fn place_named<L: Label>(plan: &mut Plan<'_, L>, text: &[u8], names: &Names) -> bool
+fn place_named<L: Label>(plan: &mut Plan<'_, L>, text: &[u8], names: &Names) -> Result<(), Refusal>
     requires hangable { Hangable L.Label.kind plan.old text.now }
     requires names { names_of names.now ≡ text_names text.now }
     requires atoms { atoms_fit L.Label.kind plan.old text.now ≡ true }
     requires cells { cells_fit L.Label.kind plan.old text.now ≡ true }
     requires labels { labels_fit L.Label.kind plan.old text.now ≡ true }
-    ensures is { result ≡ free_fit L.Label.kind plan.old text.now }
+    ensures is { result ≡ if_room (free_fit L.Label.kind plan.old text.now) }
     ensures hung { Hung L.Label.kind plan.old text.now result plan.new }
 {
-    let mut links = [0u16; TEXT_LIMIT];
-    link_names(plan, names, &mut links);
-    let count = name_count(names);
-    let mut free = [NO_LINK; FREE_LIMIT];
-    let n = draft_free(plan, names, &links[0..count], &mut free);
-    if !fits(0, n, plan.free.len(), FREE_LIMIT) {
-        return false;
+    let linked = link_names(plan, names);
+    let free = list_free(plan, &linked).map_err(|_| Refusal::FullTables)?;
+    if free.len() > plan.free.len() {
+        return Err(Refusal::FullTables);
     }
     let mut reader = Reader::new(text, 0);
-    place_text(plan, &mut reader, names, &links[0..count], &free[0..n]);
-    true
+    place_text(plan, &mut reader, &linked, &free);
+    Ok(())
 }
 
 /// Hangs a text without fault on a sound plan, unless the tables do not take the plan after it.
-fn hang_sound<L: Label>(plan: &mut Plan<'_, L>, text: &[u8], sheet: Sheet) -> bool
+fn hang_sound<L: Label>(plan: &mut Plan<'_, L>, text: &[u8], sheet: Sheet) -> Result<(), Refusal>
     requires hangable { Hangable L.Label.kind plan.old text.now }
     requires sheet { SheetCounts L.Label.kind text.now sheet }
-    ensures is { result ≡ takes plan.old (hung_text L.Label.kind (model_of plan.old) text.now) }
+    ensures is { result ≡ if_room (takes plan.old (hung_text L.Label.kind (model_of plan.old) text.now)) }
     ensures hung { Hung L.Label.kind plan.old text.now result plan.new }
 {
     if !has_room(plan, sheet) {
-        return false;
+        return Err(Refusal::FullTables);
     }
     let mut reader = Reader::new(text, 0);
     let lacking = count_lacking(plan, &mut reader);
     if !fits(plan.label_count, lacking, plan.register.len(), LABEL_LIMIT) {
-        return false;
+        return Err(Refusal::FullTables);
     }
     place_named(plan, text, &reader.names)
 }
@@ -122,16 +88,8 @@ pub fn hang<L: Label>(plan: &mut Plan<'_, L>, text: &[u8]) -> Result<(), Fault>
 {
     let sheet = read::<L>(text)?;
     if !is_sound(plan) {
-        return Err(Fault {
-            refusal: Refusal::UnsoundPlan,
-            place: 0,
-        });
+        return Err(Refusal::UnsoundPlan.into());
     }
-    if !hang_sound(plan, text, sheet) {
-        return Err(Fault {
-            refusal: Refusal::FullTables,
-            place: 0,
-        });
-    }
+    hang_sound(plan, text, sheet)?;
     Ok(())
 }

@@ -9,8 +9,5 @@ use label::kind::Label;
 pub(crate) fn next_event<L: Label>(reader: &mut Reader<'_>) -> Option<Event<L>>
     ensures { Heads L.Label.kind reader.old result reader.new }
 {
-    match reader.next::<L>() {
-        Ok(event) => event,
-        Err(_) => None,
-    }
+    reader.next::<L>().unwrap_or(None)
 }

@@ -8,9 +8,9 @@ use Rattle.std.proofs.lemmas.Bool.{eq-eqb, and_parts, and_from, cases_Bool, case
 use Rattle.std.proofs.lemmas.Str.Parse.{IsNumeralModel, IsDigitsTest, FoldsDigits, numerals_by_fold}
 use Rattle.std.proofs.lemmas.Fmt.{decimal_nonempty, digits_decimal, digits_value-decimal, length-decimal-le}
 use Rattle.text.specs.Classes.{class_of, digit, within}
-use Rattle.text.specs.Shapes.{all, begins, is_number}
+use Rattle.std.specs.List.{list_all, prefix_len}
+use Rattle.text.specs.Shapes.{begins, is_number}
 use Rattle.text.specs.Numbers.{digits_value}
-use Rattle.text.specs.Tokens.{longest}
 use Rattle.text.proofs.Shapes.{all_longest}
 use Rattle.text.proofs.Slices.{past, at_first}
 use Rattle.label.specs.declared.form.Form.TheVariants.{Number}
@@ -27,13 +27,12 @@ digit_in b t = let e = digit_is b in (grind (arith, nat_tests), grind (arith, na
 pub digit_from : (b : ℕ) → 48 ≤ b → b ≤ 57 → digit b ≡ true
 digit_from b l h = let e = digit_is b in grind (arith, nat_tests)
 
-tells_all : IsDigitsTest (λ ds. all digit ds ≡ true)
-unfolding all
+tells_all : IsDigitsTest (λ ds. list_all digit ds ≡ true)
 tells_all =
     record {
       empty = refl;
-      parts = λ c cs h. let p = and_parts (digit c) (all digit cs) h in (digit_in c p.0, p.1);
-      more = λ c cs i h. and_from (digit c) (all digit cs) (digit_from c i.0 i.1) h;
+      parts = λ c cs h. let p = and_parts (digit c) (list_all digit cs) h in (digit_in c p.0, p.1);
+      more = λ c cs i h. and_from (digit c) (list_all digit cs) (digit_from c i.0 i.1) h;
     }
 
 folds_value : FoldsDigits digits_value
@@ -41,20 +40,18 @@ unfolding digits_value
 folds_value = record { empty = λ n. refl; more = λ n c cs i. refl }
 
 -- `all digit` and `digits_value` are what the library's lemmas on digits speak of
-own : IsNumeralModel (λ ds. all digit ds ≡ true) (digits_value 0)
-own = numerals_by_fold (λ ds. all digit ds ≡ true) tells_all digits_value folds_value
+own : IsNumeralModel (λ ds. list_all digit ds ≡ true) (digits_value 0)
+own = numerals_by_fold (λ ds. list_all digit ds ≡ true) tells_all digits_value folds_value
 
 -- digits with no sign
-digits_number : (ds : List ℕ) → 0 < length ds → all digit ds ≡ true → (is_number ds ≡ true) × (number_value ds ≡ pos (digits_value 0 ds))
-unfolding all
+digits_number : (ds : List ℕ) → 0 < length ds → list_all digit ds ≡ true → (is_number ds ≡ true) × (number_value ds ≡ pos (digits_value 0 ds))
 digits_number [] h t = absurd (omega arith)
 digits_number (b ∷ bs) h t =
-    let i = digit_in b (and_parts (digit b) (all digit bs) t).0 in
+    let i = digit_in b (and_parts (digit b) (list_all digit bs) t).0 in
     let e = ne_eqb b 45 (λ e. omega (arith, i.0)) in
     (cond-false (b == 45) _ _ e ∙ t, cond-false (b == 45) _ _ e)
 
-begins_all : (ds : List ℕ) → 0 < length ds → begins digit digit ds ≡ all digit ds
-unfolding all
+begins_all : (ds : List ℕ) → 0 < length ds → begins digit digit ds ≡ list_all digit ds
 begins_all [] h = absurd (omega arith)
 begins_all (b ∷ bs) h = refl
 
@@ -107,13 +104,13 @@ number_mine bs z h =
     (cases_Bool test)
 
 -- digits, by the run of digits at their front
-begins_run : (s : List ℕ) → 0 < length s → begins digit digit s ≡ (longest digit s == length s)
+begins_run : (s : List ℕ) → 0 < length s → begins digit digit s ≡ (prefix_len digit s == length s)
 begins_run s h = begins_all s h ∙ all_longest digit s
 
-pub run_whole : (s : List ℕ) (n : ℕ) → 0 < length s → longest digit s ≡ length s → n ≡ min (digits_value 0 s) 4294967295 → Some n ≡ held_value s
+pub run_whole : (s : List ℕ) (n : ℕ) → 0 < length s → prefix_len digit s ≡ length s → n ≡ min (digits_value 0 s) 4294967295 → Some n ≡ held_value s
 run_whole s n h e v = ap Some v ∙ sym (cond-true (begins digit digit s) _ _ (begins_run s h ∙ eq-eqb _ _ e))
 
-pub run_short : (s : List ℕ) → 0 < length s → (longest digit s ≢ length s) → None ≡ held_value s
+pub run_short : (s : List ℕ) → 0 < length s → (prefix_len digit s ≢ length s) → None ≡ held_value s
 run_short s h e = sym (cond-false (begins digit digit s) _ _ (begins_run s h ∙ ne_eqb _ _ e))
 
 pub run_empty : (s : List ℕ) → length s ≤ 0 → None ≡ held_value s

@@ -1,8 +1,9 @@
 -- What a kind of label is, and what holds of each.
-use Rattle.std.specs.Prelude.{◌≡◌, ℕ, ◌≤◌, Bool, true, false, cond, List, ◌++◌, length, drop, Some, None, Option}
+use Rattle.std.specs.Prelude.{◌≡◌, ℕ, ◌≤◌, Bool, true, false, cond, List, length, Some, None, Option}
 use Rattle.std.specs.declared.cmp.Ordering.TheVariants.{Less, Equal, Greater}
 use Rattle.std.specs.declared.cmp.Ordering.{Ordering}
 use Rattle.text.specs.Shapes.{is_word, is_number}
+use Rattle.label.specs.Written.{token_limit}
 use Rattle.label.specs.declared.form.Form.{Form}
 use Rattle.label.specs.declared.form.Form.TheVariants.{Word, Number}
 
@@ -20,10 +21,6 @@ pub record Kind (L : Type 0) : Type 0 where
 abbrev pub proper : Form → List ℕ → Bool
 proper Word bs = is_word bs
 proper Number bs = is_number bs
-
--- the most bytes of a label's token
-abbrev pub token_limit : ℕ
-token_limit = 11
 
 -- the token of a label: the bytes are of its class and few, and mean just that label
 pub record Shown {L : Type 0} (k : Kind L) (a : L) : Type 0 where
@@ -57,13 +54,3 @@ compared lower a b = cond (lower a b) Less (cond (lower b a) Greater Equal)
 
 abbrev pub admitted : {L : Type 0} → (L → Bool) → L → Option L
 admitted mine a = cond (mine a) (Some a) None
-
--- a token's class, and how many bytes it has
-abbrev pub measured : Option (Form × List ℕ) → Option (Form × ℕ)
-measured None = None
-measured (Some t) = Some (t.0, length t.1)
-
--- a token's bytes, and past them what stood there before
-abbrev pub written : Option (Form × List ℕ) → List ℕ → List ℕ
-written None old = old
-written (Some t) old = t.1 ++ drop (length t.1) old

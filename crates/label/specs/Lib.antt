@@ -1,3 +1,4 @@
+pub mod Written
 pub mod Kind
 pub mod Tokens
 pub mod WordKind

@@ -1,5 +1,5 @@
 -- Words and numbers as labels: what their tokens mean.
-use Rattle.std.specs.Prelude.{ℕ, ◌+◌, min, Bool, cond, ◌&&◌, List, [], ◌∷◌, ◌++◌, length, take, drop, ℤ, pos, negsuc, neg_ℤ, Some, None, Option, ◌==◌, nat_le}
+use Rattle.std.specs.Prelude.{ℕ, min, Bool, cond, ◌&&◌, List, [], ◌∷◌, ℤ, pos, negsuc, neg_ℤ, Some, None, Option, ◌==◌, nat_le}
 use Rattle.std.specs.Fmt.{signed_decimal}
 use Rattle.text.specs.Classes.{digit}
 use Rattle.text.specs.Shapes.{begins, is_word, is_number}
@@ -47,7 +47,3 @@ negative (Some n) = cond (nat_le n 2147483648) (Some (neg_ℤ (pos n))) None
 abbrev pub unsigned : Option ℕ → Option ℤ
 unsigned None = None
 unsigned (Some n) = cond (nat_le n 2147483647) (Some (pos n)) None
-
--- bytes in place of those that stood from a place on
-abbrev pub put : ℕ → List ℕ → List ℕ → List ℕ
-put at bs old = take at old ++ (bs ++ drop (at + length bs) old)

@@ -1,9 +1,11 @@
 //! What every kind of label can do.
 ghost use Rattle.std.specs.Prelude.{◌≡◌};
-ghost use Rattle.label.specs.Kind.{Kind, Lawful, Sound, admitted, compared, measured, written};
+ghost use Rattle.label.specs.Kind.{Kind, Lawful, Sound, admitted, compared};
+ghost use Rattle.label.specs.Written.{told};
 ghost use Rattle.std.specs.Option.{option_map};
 
 use crate::form::Form;
+use crate::spelled::Spelled;
 use std::cmp::Ordering;
 
 /// A kind of label. Some values of the type may be no label: `kind` says which are, and how labels are read, written and ordered.
@@ -23,11 +25,9 @@ pub trait Label: Copy {
     fn compare(self, other: Self) -> Ordering
         ensures { result ≡ compared kind.lower self other };
 
-    /// Writes the token of a label to the front of `out`, and gives its class and how many bytes it has.
-    /// What is no label has no token, and leaves `out` as it was.
-    fn write(self, out: &mut [u8; 11]) -> Option<(Form, usize)>
-        ensures token { result ≡ measured (kind.token self) }
-        ensures bytes { out.new ≡ written (kind.token self) out.old };
+    /// The token of a label. What is no label has none.
+    fn token(self) -> Option<Spelled>
+        ensures { option_map told result ≡ kind.token self };
 
     /// The same value, known to be a label, if it is one.
     fn admit(self) -> Option<Self::Sure>

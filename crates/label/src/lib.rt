@@ -3,7 +3,9 @@
 
 pub mod form;
 pub mod kind;
-pub mod numbers;
+pub mod named;
+mod numbers;
+pub mod spelled;
 pub mod sure;
 pub mod word;
 pub mod word_or_number;

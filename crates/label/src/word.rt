@@ -4,12 +4,13 @@ ghost use Rattle.label.specs.Laws.{word_lawful, word_sound};
 
 use crate::form::Form;
 use crate::kind::Label;
+use crate::spelled::Spelled;
 use crate::sure::SureWord;
-use crate::words::{admit_word, compare_words, read_word, write_word};
+use crate::words::{admit_word, read_word, spell_word};
 use std::cmp::Ordering;
 
 /// A word of at most eight bytes as one number, as the crate `text` packs it. A number that packs no word is no label.
-#[derive(Clone, Copy, PartialEq, Eq, Debug)]
+#[derive(Clone, Copy, PartialEq, Eq, PartialOrd, Ord, Debug)]
 pub struct WordLabel(pub u64);
 
 impl Label for WordLabel {
@@ -25,20 +26,17 @@ impl Label for WordLabel {
 
     fn read(form: Form, bytes: &[u8]) -> Option<WordLabel> {
         match form {
-            Form::Word => match read_word(bytes) {
-                Some(n) => Some(WordLabel(n)),
-                None => None,
-            },
+            Form::Word => read_word(bytes).map(WordLabel),
             Form::Number => None,
         }
     }
 
     fn compare(self, other: WordLabel) -> Ordering {
-        compare_words(self.0, other.0)
+        self.cmp(&other)
     }
 
-    fn write(self, out: &mut [u8; 11]) -> Option<(Form, usize)> {
-        write_word(self.0, out)
+    fn token(self) -> Option<Spelled> {
+        spell_word(self.0)
     }
 
     fn admit(self) -> Option<SureWord> {

@@ -4,16 +4,17 @@ ghost use Rattle.label.specs.Laws.{mixed_lawful, mixed_sound};
 
 use crate::form::Form;
 use crate::kind::Label;
-use crate::numbers::{compare_numbers, read_number, write_number};
+use crate::numbers::{read_number, spell_number};
+use crate::spelled::Spelled;
 use crate::sure::{SureNumber, SureWordOrNumber};
-use crate::words::{admit_word, compare_words, read_word, write_word};
+use crate::words::{admit_word, read_word, spell_word};
 use std::cmp::Ordering;
 
 /// A packed word, or a number of 32 bits with a sign. Numbers are lower than words.
-#[derive(Clone, Copy, PartialEq, Eq, Debug)]
+#[derive(Clone, Copy, PartialEq, Eq, PartialOrd, Ord, Debug)]
 pub enum WordOrNumber {
-    Word(u64),
     Number(i32),
+    Word(u64),
 }
 
 impl Label for WordOrNumber {
@@ -29,39 +30,25 @@ impl Label for WordOrNumber {
 
     fn read(form: Form, bytes: &[u8]) -> Option<WordOrNumber> {
         match form {
-            Form::Word => match read_word(bytes) {
-                Some(n) => Some(WordOrNumber::Word(n)),
-                None => None,
-            },
-            Form::Number => match read_number(bytes) {
-                Some(z) => Some(WordOrNumber::Number(z)),
-                None => None,
-            },
+            Form::Word => read_word(bytes).map(WordOrNumber::Word),
+            Form::Number => read_number(bytes).map(WordOrNumber::Number),
         }
     }
 
     fn compare(self, other: WordOrNumber) -> Ordering {
-        match (self, other) {
-            (WordOrNumber::Number(a), WordOrNumber::Number(b)) => compare_numbers(a, b),
-            (WordOrNumber::Number(_), WordOrNumber::Word(_)) => Ordering::Less,
-            (WordOrNumber::Word(_), WordOrNumber::Number(_)) => Ordering::Greater,
-            (WordOrNumber::Word(a), WordOrNumber::Word(b)) => compare_words(a, b),
-        }
+        self.cmp(&other)
     }
 
-    fn write(self, out: &mut [u8; 11]) -> Option<(Form, usize)> {
+    fn token(self) -> Option<Spelled> {
         match self {
-            WordOrNumber::Word(n) => write_word(n, out),
-            WordOrNumber::Number(z) => Some((Form::Number, write_number(z, out))),
+            WordOrNumber::Word(n) => spell_word(n),
+            WordOrNumber::Number(z) => spell_number(z),
         }
     }
 
     fn admit(self) -> Option<SureWordOrNumber> {
         match self {
-            WordOrNumber::Word(n) => match admit_word(n) {
-                Some(s) => Some(SureWordOrNumber::Word(s)),
-                None => None,
-            },
+            WordOrNumber::Word(n) => admit_word(n).map(SureWordOrNumber::Word),
             WordOrNumber::Number(value) => Some(SureWordOrNumber::Number(SureNumber { value })),
         }
     }

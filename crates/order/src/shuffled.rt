@@ -13,7 +13,7 @@ pub struct Shuffled {
 }
 
 /// The places of a shuffled order for one number of things: from the first on, each is a stride after the one before, and round again.
-#[derive(Clone, Copy)]
+#[derive(Clone, Copy, Default)]
 pub struct Round {
     count: u16,
     first: u16,
@@ -27,26 +27,24 @@ impl Order for Shuffled {
 
     ghost lawful = { shuffled_lawful };
 
+    #[tactic(auto, using(crate::specs::Shuffle::row_held))]
     fn row(&self, n: usize) -> Round {
         if n == 0 || n > 4096 {
-            return Round {
-                count: 0,
-                first: 0,
-                stride: 0,
-            };
+            return Round::default();
         }
-        let high = 1 + (self.seed / 65536) % n as u32;
+        let n = n as u16;
+        let high = 1 + (self.seed / 65536) % u32::from(n);
         Round {
-            count: n as u16,
-            first: (self.seed % n as u32) as u16,
-            stride: stride(n as u16, high as u16),
+            count: n,
+            first: (self.seed % u32::from(n)) as u16,
+            stride: stride(n, high as u16),
         }
     }
 
     fn at(row: Round, k: usize) -> usize {
-        if k < row.count as usize {
-            let far = row.first as u32 + k as u32 * row.stride as u32;
-            (far % row.count as u32) as usize
+        let count = usize::from(row.count);
+        if k < count {
+            (usize::from(row.first) + k * usize::from(row.stride)) % count
         } else {
             0
         }
@@ -58,10 +56,9 @@ impl Order for Shuffled {
 }
 
 /// What the shuffled order rests on: there is one stride and no other, the places go by it, and an example.
-pub fn shuffled_stands() -> u8
+#[tactic(auto, using(crate::specs::Shuffle::one_stride, crate::specs::Shuffle::by_any_stride, crate::specs::Shuffle::worked))]
+pub fn shuffled_stands()
     ensures stride { OneStride }
     ensures places { ByAnyStride }
     ensures example { Worked }
-{
-    0
-}
+{}

@@ -3,6 +3,7 @@ ghost use Rattle.std.specs.Prelude.{◌<◌};
 ghost use Rattle.order.specs.Divisors.{Gcd, Stride};
 
 /// The greatest common divisor of two numbers.
+#[tactic(auto, using(crate::specs::TheStride::gcd_step))]
 pub fn gcd(a: u16, b: u16) -> u16
     ensures { Gcd a b result }
 {
@@ -14,9 +15,6 @@ pub(crate) fn stride(n: u16, h: u16) -> u16
     requires { 0 < h }
     ensures { Stride n h result }
 {
-    let mut g = h;
-    while gcd(n, g) != 1 {
-        g -= 1;
-    }
-    g
+    // gcd(n, 1) is 1, so one is found.
+    (1..=h).rev().find(|g| gcd(n, *g) == 1).unwrap_or(1)
 }

@@ -39,14 +39,13 @@ pub fn places<O: Order>(order: &O, out: &mut [u16])
     ensures tried { AllTried out.new }
 {
     let row = order.row(out.len());
-    for k in 0..out.len() {
-        out[k] = O::at(row, k) as u16;
+    for (k, place) in out.iter_mut().enumerate() {
+        *place = O::at(row, k) as u16;
     }
 }
 
 /// Every order reaches all: to try each k below n is to try each of n things.
-pub fn reach_stands<O: Order>(order: &O) -> u8
+#[tactic(auto, using(crate::proofs::Reach::reaches))]
+pub fn reach_stands<O: Order>(order: &O)
     ensures { Reaches (O.meaning.place order.now) }
-{
-    0
-}
+{}

@@ -17,7 +17,8 @@ use Rattle.grammar.specs.Tests.{set_of, label_read, text_limit}
 use Rattle.grammar.specs.Reading.{Events, event, end, fault, follow, event_of, labelled, setting, number_event, events_from, hang_events, complete, unless_lone, first_lone, at_place}
 use Rattle.grammar.specs.Laws.{fault_of}
 use Rattle.grammar.specs.Sheets.{empty, tally, tallied, once_in, text_names, sheet_of, with_once}
-use Rattle.placing.specs.Counts.{summed, connectors_at, labels_at, cells_at, labels_in, cells_in, connectors_in, SheetCounts, SheetMeans, EventsRight}
+use Rattle.grammar.specs.Events.{summed, connectors_at, connectors_in}
+use Rattle.placing.specs.Counts.{labels_at, cells_at, labels_in, cells_in, SheetCounts, SheetMeans, EventsRight}
 use Rattle.placing.proofs.Judging.{Right, by_verdict}
 use Rattle.placing.proofs.Ordering.{orderly_text}
 
@@ -67,9 +68,6 @@ module _ {L : Type 0} (k : Kind L) (bs : List ℕ) where
 
   pub sheet_ok : (s : Sheet) → sheet_of k bs ≡ Ok s → SheetCounts k bs s
   sheet_ok s e = subst (SheetMeans k bs) e sheet_means
-
-  pub sheet_err : (f : Fault) → sheet_of k bs ≡ Err f → fault_of (hang_events k 0 bs) ≡ Some f
-  sheet_err f e = subst (SheetMeans k bs) e sheet_means
 
 module _ {L : Type 0} (k : Kind L) where
   abbrev InAfter : State → Seen → ℕ → Events L → Type 0

@@ -7,22 +7,21 @@ use Rattle.grammar.specs.declared.event.Event.TheVariants as events
 use Rattle.grammar.specs.Reading.{Events, event, end, fault, hang_events}
 use Rattle.grammar.specs.Laws.{fault_of}
 use Rattle.grammar.specs.Sheets.{text_names}
-use Rattle.plan.specs.Sound.{each}
+use Rattle.std.specs.List.{list_all}
 use Rattle.register.proofs.Adding.{adding}
-use Rattle.placing.specs.Counts.{connectors_in, summed}
+use Rattle.grammar.specs.Events.{connectors_in, summed}
 use Rattle.placing.specs.Keeps.{AddingKeeps, HangSound, OfText, connectors_of, more_connectors}
 use Rattle.placing.proofs.Counting.{connectors_text}
 use Rattle.placing.proofs.KeepSound.{keeps_sound}
 use Rattle.placing.proofs.NamesOf.{names_right}
 use Rattle.placing.proofs.Ordering.{orderly_text}
 
-each_and : {A : Type 0} (p q : A → Bool) (xs : List A) → each p xs ≡ true → each q xs ≡ true → each (λ x. p x && q x) xs ≡ true
-unfolding each
+each_and : {A : Type 0} (p q : A → Bool) (xs : List A) → list_all p xs ≡ true → list_all q xs ≡ true → list_all (λ x. p x && q x) xs ≡ true
 each_and p q [] h g = refl
 each_and p q (x ∷ xs) h g =
-    let a = and_parts (p x) (each p xs) h in
-    let b = and_parts (q x) (each q xs) g in
-    and_from (p x && q x) (each (λ x. p x && q x) xs) (and_from (p x) (q x) a.0 b.0) (each_and p q xs a.1 b.1)
+    let a = and_parts (p x) (list_all p xs) h in
+    let b = and_parts (q x) (list_all q xs) g in
+    and_from (p x && q x) (list_all (λ x. p x && q x) xs) (and_from (p x) (q x) a.0 b.0) (each_and p q xs a.1 b.1)
 
 more_same : {L : Type 0} (e : Event L) (es : Events L) → connectors_of es ≡ connectors_in es → more_connectors e (connectors_of es) ≡ connectors_in (event e es)
 unfolding summed
@@ -34,7 +33,7 @@ more_same (events.Set j) es h = omega arith
 more_same (events.First n) es h = omega arith
 more_same (events.Second n) es h = omega arith
 
-connectors_same : {L : Type 0} (es : Events L) → connectors_of es ≡ connectors_in es
+pub connectors_same : {L : Type 0} (es : Events L) → connectors_of es ≡ connectors_in es
 unfolding connectors_of summed
 connectors_same (event e es) = more_same e es (connectors_same es)
 connectors_same end = refl

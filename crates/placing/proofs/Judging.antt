@@ -15,7 +15,7 @@ use Rattle.grammar.specs.Seen.{Seen, sees, word, number, name, comma, open_paren
 use Rattle.grammar.specs.State.{State}
 use Rattle.grammar.specs.Tests.{foreign_label, unexpected, too_deep, ninth_port, third_standing, misplaced_set, crowded, wrong_set}
 use Rattle.grammar.specs.Reading.{judged, event_of}
-use Rattle.placing.specs.Orderly.{proper_name}
+use Rattle.grammar.specs.Events.{proper_name}
 
 -- a token at which no number is at fault
 pub record Right {L : Type 0} (k : Kind L) (st : State) (s : Seen) : Type 0 where

@@ -5,7 +5,8 @@ use Rattle.std.proofs.lemmas.Bool.{and_from, and_parts, lt-ltb, ltb-true}
 use Rattle.std.proofs.lemmas.Bool.Decides.{nat_tests}
 use Rattle.plan.specs.declared.tables.FreeLink.{FreeLink}
 use Rattle.plan.specs.Model.{Node}
-use Rattle.plan.specs.Sound.{count, each, port_links, rows}
+use Rattle.std.specs.List.{list_all}
+use Rattle.plan.specs.Sound.{count, port_links, rows}
 use Rattle.placing.specs.Placing.{become, joined, put, refreed, relinked}
 
 -- what stands stands twice
@@ -58,71 +59,67 @@ twice_swap x y xs h a =
 
 -- ** through the table
 
-become_joined : (x y : ℕ) (b : List ℕ) (z : ℕ) → z < length b → become (joined x y b) z ≡ put (become b x) (become b y) (become b z)
+pub become_joined : (x y : ℕ) (b : List ℕ) (z : ℕ) → z < length b → become (joined x y b) z ≡ put (become b x) (become b y) (become b z)
 become_joined x y b z l = get_or-map (put (become b x) (become b y)) b z z z l
 
-become_all : (x y : ℕ) (b xs : List ℕ) → each (λ z. ltb z (length b)) xs ≡ true → map (become (joined x y b)) xs ≡ map (put (become b x) (become b y)) (map (become b) xs)
-unfolding each
+become_all : (x y : ℕ) (b xs : List ℕ) → list_all (λ z. ltb z (length b)) xs ≡ true → map (become (joined x y b)) xs ≡ map (put (become b x) (become b y)) (map (become b) xs)
 become_all x y b [] h = refl
 become_all x y b (z ∷ zs) h =
-    let both = and_parts (ltb z (length b)) (each (λ z. ltb z (length b)) zs) h in
+    let both = and_parts (ltb z (length b)) (list_all (λ z. ltb z (length b)) zs) h in
     ap₂ (λ t ts. t ∷ ts) (become_joined x y b z (ltb-true z (length b) both.0)) (become_all x y b zs both.1)
 
-length_joined : (x y : ℕ) (b : List ℕ) → length (joined x y b) ≡ length b
+pub length_joined : (x y : ℕ) (b : List ℕ) → length (joined x y b) ≡ length b
 length_joined x y b = length-map b (put (become b x) (become b y))
 
 -- connectors absorbed one after another
-pub absorbs : (cs : List (ℕ × ℕ)) (es b : List ℕ) → each (λ z. ltb z (length b)) (flat cs ++ es) ≡ true → Twice (map (become b) (flat cs ++ es)) → Twice (map (become (joined_all cs b)) es)
-unfolding flat joined_all each
+pub absorbs : (cs : List (ℕ × ℕ)) (es b : List ℕ) → list_all (λ z. ltb z (length b)) (flat cs ++ es) ≡ true → Twice (map (become b) (flat cs ++ es)) → Twice (map (become (joined_all cs b)) es)
+unfolding flat joined_all
 absorbs [] es b h t = t
 absorbs (c ∷ cs) es b h t =
     let x = c.0 in
     let y = c.1 in
-    let first = and_parts (ltb x (length b)) (ltb y (length b) && each (λ z. ltb z (length b)) (flat cs ++ es)) h in
-    let rest = (and_parts (ltb y (length b)) (each (λ z. ltb z (length b)) (flat cs ++ es)) first.1).1 in
+    let first = and_parts (ltb x (length b)) (ltb y (length b) && list_all (λ z. ltb z (length b)) (flat cs ++ es)) h in
+    let rest = (and_parts (ltb y (length b)) (list_all (λ z. ltb z (length b)) (flat cs ++ es)) first.1).1 in
     let n = length_joined x y b in
-    absorbs cs es (joined x y b) (ap (λ m. each (λ z. ltb z m) (flat cs ++ es)) n ∙ rest)
+    absorbs cs es (joined x y b) (ap (λ m. list_all (λ z. ltb z m) (flat cs ++ es)) n ∙ rest)
     (subst Twice (sym (become_all x y b (flat cs ++ es) rest)) (twice_swap (become b x) (become b y) (map (become b) (flat cs ++ es)) t))
 
 -- ** no link passes the limit
 
-below : (n : ℕ) (b : List ℕ) (i d : ℕ) → each (λ x. ltb x n) b ≡ true → i < length b → ltb (get_or b i d) n ≡ true
-unfolding each
+below : (n : ℕ) (b : List ℕ) (i d : ℕ) → list_all (λ x. ltb x n) b ≡ true → i < length b → ltb (get_or b i d) n ≡ true
 below n [] i d h l = absurd (omega arith)
-below n (x ∷ b) zero d h l = (and_parts (ltb x n) (each (λ x. ltb x n) b) h).0
-below n (x ∷ b) (suc i) d h l = below n b i d (and_parts (ltb x n) (each (λ x. ltb x n) b) h).1 (omega arith)
+below n (x ∷ b) zero d h l = (and_parts (ltb x n) (list_all (λ x. ltb x n) b) h).0
+below n (x ∷ b) (suc i) d h l = below n b i d (and_parts (ltb x n) (list_all (λ x. ltb x n) b) h).1 (omega arith)
 
-become_below : (n : ℕ) (b : List ℕ) (z : ℕ) → each (λ x. ltb x n) b ≡ true → z < length b → ltb (become b z) n ≡ true
+become_below : (n : ℕ) (b : List ℕ) (z : ℕ) → list_all (λ x. ltb x n) b ≡ true → z < length b → ltb (become b z) n ≡ true
 become_below n b z h l = below n b z z h l
 
-map_put_below : (n x y : ℕ) (b : List ℕ) → ltb y n ≡ true → each (λ z. ltb z n) b ≡ true → each (λ z. ltb z n) (map (put x y) b) ≡ true
-unfolding each
+map_put_below : (n x y : ℕ) (b : List ℕ) → ltb y n ≡ true → list_all (λ z. ltb z n) b ≡ true → list_all (λ z. ltb z n) (map (put x y) b) ≡ true
 map_put_below n x y [] k h = refl
 map_put_below n x y (z ∷ b) k h =
-    let both = and_parts (ltb z n) (each (λ z. ltb z n) b) h in
+    let both = and_parts (ltb z n) (list_all (λ z. ltb z n) b) h in
     let here = both.0 in
     let ih = map_put_below n x y b k both.1 in
     and_from (ltb (put x y z) n) _ (elim (eqb z x) as (λ v. ltb (cond v y z) n ≡ true) [ true ↦ k | false ↦ here ]) ih
 
-map_below : (n : ℕ) (b xs : List ℕ) → each (λ x. ltb x n) b ≡ true → each (λ z. ltb z (length b)) xs ≡ true → each (λ z. ltb z n) (map (become b) xs) ≡ true
-unfolding each
+map_below : (n : ℕ) (b xs : List ℕ) → list_all (λ x. ltb x n) b ≡ true → list_all (λ z. ltb z (length b)) xs ≡ true → list_all (λ z. ltb z n) (map (become b) xs) ≡ true
 map_below n b [] h k = refl
 map_below n b (x ∷ xs) h k =
-    let both = and_parts (ltb x (length b)) (each (λ z. ltb z (length b)) xs) k in
+    let both = and_parts (ltb x (length b)) (list_all (λ z. ltb z (length b)) xs) k in
     and_from (ltb (become b x) n) _ (become_below n b x h (ltb-true x (length b) both.0)) (map_below n b xs h both.1)
 
-pub absorbs_below : (n : ℕ) (cs : List (ℕ × ℕ)) (es b : List ℕ) → each (λ x. ltb x n) b ≡ true → each (λ z. ltb z (length b)) (flat cs ++ es) ≡ true → each (λ z. ltb z n) (map (become (joined_all cs b)) es) ≡ true
-unfolding flat joined_all each
+pub absorbs_below : (n : ℕ) (cs : List (ℕ × ℕ)) (es b : List ℕ) → list_all (λ x. ltb x n) b ≡ true → list_all (λ z. ltb z (length b)) (flat cs ++ es) ≡ true → list_all (λ z. ltb z n) (map (become (joined_all cs b)) es) ≡ true
+unfolding flat joined_all
 absorbs_below n [] es b k h = map_below n b es k h
 absorbs_below n (c ∷ cs) es b k h =
     let x = c.0 in
     let y = c.1 in
-    let first = and_parts (ltb x (length b)) (ltb y (length b) && each (λ z. ltb z (length b)) (flat cs ++ es)) h in
-    let second = and_parts (ltb y (length b)) (each (λ z. ltb z (length b)) (flat cs ++ es)) first.1 in
+    let first = and_parts (ltb x (length b)) (ltb y (length b) && list_all (λ z. ltb z (length b)) (flat cs ++ es)) h in
+    let second = and_parts (ltb y (length b)) (list_all (λ z. ltb z (length b)) (flat cs ++ es)) first.1 in
     let m = length_joined x y b in
     absorbs_below n cs es (joined x y b)
     (map_put_below n (become b x) (become b y) b (become_below n b y k (ltb-true y (length b) second.0)) k)
-    (ap (λ m. each (λ z. ltb z m) (flat cs ++ es)) m ∙ second.1)
+    (ap (λ m. list_all (λ z. ltb z m) (flat cs ++ es)) m ∙ second.1)
 
 -- ** at first no link has become another
 
@@ -144,8 +141,8 @@ unfolding rows
 length_rows j zero = refl
 length_rows j (suc n) = ap suc (length_rows (suc j) n)
 
-pub rows_below : (j n m : ℕ) → j + n ≤ m → each (λ x. ltb x m) (rows j n) ≡ true
-unfolding rows each
+pub rows_below : (j n m : ℕ) → j + n ≤ m → list_all (λ x. ltb x m) (rows j n) ≡ true
+unfolding rows
 rows_below j zero m h = refl
 rows_below j (suc n) m h = and_from (ltb j m) _ (lt-ltb j m (omega arith)) (rows_below (suc j) n m (omega arith))
 

@@ -4,7 +4,8 @@ use Rattle.std.proofs.lemmas.Bool.{and_from, and_parts, eqb-true, le-leb, leb-tr
 use Rattle.label.specs.Kind.{Kind}
 use Rattle.plan.specs.declared.tables.Census.{Census}
 use Rattle.plan.specs.Model.{Node}
-use Rattle.plan.specs.Sound.{alike, ascending, atoms_of, each, port_links, registered, row_right}
+use Rattle.std.specs.List.{list_all}
+use Rattle.plan.specs.Sound.{alike, ascending, atoms_of, port_links, registered, row_right}
 use Rattle.plan.specs.Tests.{register_test}
 use Rattle.placing.specs.Placing.{relinked, with_port}
 
@@ -21,14 +22,14 @@ module _ {L : Type 0} where
   fits_new (a ∷ []) l c = refl
   fits_new (a ∷ (b ∷ atoms)) l c = fits_new (b ∷ atoms) l c
 
-  pub fits_none : (atoms : List (Node L)) → each (λ a. leb (length a.links) 8) atoms ≡ true → last_fits 0 atoms ≡ true
-  unfolding last_fits each
+  pub fits_none : (atoms : List (Node L)) → list_all (λ a. leb (length a.links) 8) atoms ≡ true → last_fits 0 atoms ≡ true
+  unfolding last_fits
   fits_none [] h = refl
   fits_none (a ∷ []) h =
       let e : length a.links + 0 ≡ length a.links = omega arith in
       ap (λ n. leb n 8) e ∙ (and_parts (leb (length a.links) 8) true h).0
   fits_none (a ∷ (b ∷ atoms)) h =
-      fits_none (b ∷ atoms) (and_parts (leb (length a.links) 8) (each (λ c. leb (length c.links) 8) (b ∷ atoms)) h).1
+      fits_none (b ∷ atoms) (and_parts (leb (length a.links) 8) (list_all (λ c. leb (length c.links) 8) (b ∷ atoms)) h).1
 
   pub fits_port : (x p : ℕ) (atoms : List (Node L)) → 0 < p → last_fits p atoms ≡ true → last_fits (p - 1) (with_port x atoms) ≡ true
   unfolding last_fits with_port
@@ -40,20 +41,20 @@ module _ {L : Type 0} where
   fits_port x p (a ∷ (b ∷ [])) l h = fits_port x p (b ∷ []) l h
   fits_port x p (a ∷ (b ∷ (c ∷ atoms))) l h = fits_port x p (b ∷ (c ∷ atoms)) l h
 
-  pub ports_port : (x p : ℕ) (atoms : List (Node L)) → 0 < p → last_fits p atoms ≡ true → each (λ a. leb (length a.links) 8) atoms ≡ true → each (λ a. leb (length a.links) 8) (with_port x atoms) ≡ true
-  unfolding last_fits with_port each
+  pub ports_port : (x p : ℕ) (atoms : List (Node L)) → 0 < p → last_fits p atoms ≡ true → list_all (λ a. leb (length a.links) 8) atoms ≡ true → list_all (λ a. leb (length a.links) 8) (with_port x atoms) ≡ true
+  unfolding last_fits with_port
   ports_port x p [] l h e = refl
   ports_port x p (a ∷ []) l h e =
       let n = length-append a.links (x ∷ []) in
       let k = leb-true (length a.links + p) 8 h in
       and_from (leb (length (a.links ++ (x ∷ []))) 8) true (le-leb (length (a.links ++ (x ∷ []))) 8 (omega arith)) refl
   ports_port x p (a ∷ (b ∷ atoms)) l h e =
-      let both = and_parts (leb (length a.links) 8) (each (λ c. leb (length c.links) 8) (b ∷ atoms)) e in
+      let both = and_parts (leb (length a.links) 8) (list_all (λ c. leb (length c.links) 8) (b ∷ atoms)) e in
       and_from (leb (length a.links) 8) _ both.0 (ports_port x p (b ∷ atoms) l h both.1)
 
   -- a test that does not look at the links
-  pub each_port : (q : Node L → Bool) (x : ℕ) (atoms : List (Node L)) → ((a : Node L) (links : List ℕ) → q (record { label = a.label; cell = a.cell; links = links }) ≡ q a) → each q (with_port x atoms) ≡ each q atoms
-  unfolding with_port each
+  pub each_port : (q : Node L → Bool) (x : ℕ) (atoms : List (Node L)) → ((a : Node L) (links : List ℕ) → q (record { label = a.label; cell = a.cell; links = links }) ≡ q a) → list_all q (with_port x atoms) ≡ list_all q atoms
+  unfolding with_port
   each_port q x [] w = refl
   each_port q x (a ∷ []) w = ap (λ b. b && true) (w a (a.links ++ (x ∷ [])))
   each_port q x (a ∷ (b ∷ atoms)) w = ap (λ v. q a && v) (each_port q x (b ∷ atoms) w)
@@ -77,11 +78,11 @@ module _ {L : Type 0} where
   links_new (a ∷ atoms) l c = ap (λ t. a.links ++ t) (links_new atoms l c)
 
   -- at most eight ports an atom
-  pub few_links : (atoms : List (Node L)) → each (λ a. leb (length a.links) 8) atoms ≡ true → length (port_links atoms) ≤ length atoms + length atoms + length atoms + length atoms + length atoms + length atoms + length atoms + length atoms
-  unfolding port_links each
+  pub few_links : (atoms : List (Node L)) → list_all (λ a. leb (length a.links) 8) atoms ≡ true → length (port_links atoms) ≤ length atoms + length atoms + length atoms + length atoms + length atoms + length atoms + length atoms + length atoms
+  unfolding port_links
   few_links [] h = omega arith
   few_links (a ∷ atoms) h =
-      let both = and_parts (leb (length a.links) 8) (each (λ c. leb (length c.links) 8) atoms) h in
+      let both = and_parts (leb (length a.links) 8) (list_all (λ c. leb (length c.links) 8) atoms) h in
       let k = leb-true (length a.links) 8 both.0 in
       let n = length-append a.links (port_links atoms) in
       let ih = few_links atoms both.1 in
@@ -99,14 +100,12 @@ module _ {L : Type 0} where
     atoms_relinked l b [] = refl
     atoms_relinked l b (a ∷ atoms) = ap (λ n. cond (alike k l a.label) (suc n) n) (atoms_relinked l b atoms)
 
-    rows_same : (nodes others : List (Node L)) (rs : List (Census L)) → ((l : L) → atoms_of k l nodes ≡ atoms_of k l others) → each (row_right k nodes) rs ≡ each (row_right k others) rs
-    unfolding each
+    rows_same : (nodes others : List (Node L)) (rs : List (Census L)) → ((l : L) → atoms_of k l nodes ≡ atoms_of k l others) → list_all (row_right k nodes) rs ≡ list_all (row_right k others) rs
     rows_same nodes others [] h = refl
     rows_same nodes others (c ∷ cs) h =
         ap₂ (λ n v. (k.mine c.label && (ltb 0 c.atoms && eqb c.atoms n)) && v) (h c.label) (rows_same nodes others cs h)
 
-    each_relinked : (q : Node L → Bool) (b : List ℕ) (atoms : List (Node L)) → ((a : Node L) → q (relinked b a) ≡ q a) → each q (map (relinked b) atoms) ≡ each q atoms
-    unfolding each
+    each_relinked : (q : Node L → Bool) (b : List ℕ) (atoms : List (Node L)) → ((a : Node L) → q (relinked b a) ≡ q a) → list_all q (map (relinked b) atoms) ≡ list_all q atoms
     each_relinked q b [] w = refl
     each_relinked q b (a ∷ atoms) w = ap₂ ◌&&◌ (w a) (each_relinked q b atoms w)
 

@@ -9,10 +9,12 @@ use Rattle.grammar.specs.Laws.{fault_of}
 use Rattle.grammar.specs.Reading.{Events, event, end, fault}
 use Rattle.plan.specs.declared.tables.Cell.{Cell}
 use Rattle.plan.specs.Model.{Model, Node}
-use Rattle.plan.specs.Sound.{all_lead, each, is_root, no_cell}
+use Rattle.std.specs.List.{list_all}
+use Rattle.plan.specs.Sound.{all_lead, is_root, no_cell}
 use Rattle.plan.specs.Tests.{register_test}
 use Rattle.placing.specs.Keeps.{AddingKeeps, SoundModel}
-use Rattle.placing.specs.Orderly.{depth_after, halfway, may_come, orderly, ports_after, proper_name}
+use Rattle.grammar.specs.Events.{depth_after, proper_name}
+use Rattle.placing.specs.Orderly.{halfway, may_come, orderly, ports_after}
 use Rattle.placing.specs.Placing.{Placing, begun, place_all, place_one, with_set}
 use Rattle.placing.proofs.KeepEach.{each_join, each_one, each_set, each_weaker}
 use Rattle.placing.proofs.KeepCells.{all_enter, all_set, climb, climb_enter, climb_in, climb_inner, climb_leave, climb_set, root_more, root_set}
@@ -22,16 +24,16 @@ use Rattle.placing.proofs.KeepAtoms.{each_port, fits_new, fits_none, fits_port, 
 pub record Going {L : Type 0} (k : Kind L) (d p : ℕ) (q : Placing L) : Type 0 where
   pub root : is_root q.cells ≡ true
   pub depth : all_lead q.cells ≡ true
-  pub sets : each (λ c. leb c.set 15) q.cells ≡ true
-  pub labels : each (λ a. k.mine a.label) q.atoms ≡ true
-  pub homes : each (λ a. ltb a.cell (length q.cells)) q.atoms ≡ true
-  pub ports : each (λ a. leb (length a.links) 8) q.atoms ≡ true
+  pub sets : list_all (λ c. leb c.set 15) q.cells ≡ true
+  pub labels : list_all (λ a. k.mine a.label) q.atoms ≡ true
+  pub homes : list_all (λ a. ltb a.cell (length q.cells)) q.atoms ≡ true
+  pub ports : list_all (λ a. leb (length a.links) 8) q.atoms ≡ true
   pub room : last_fits p q.atoms ≡ true
   pub up : climb d q.cells q.inside ≡ true
   pub register : register_test k q.atoms q.register ≡ true
 
 module _ {L : Type 0} (k : Kind L) (link : Name → ℕ) (adding : AddingKeeps k) where
-  homes_more : (cs ds : List Cell) (atoms : List (Node L)) → length cs ≤ length ds → each (λ a. ltb a.cell (length cs)) atoms ≡ true → each (λ a. ltb a.cell (length ds)) atoms ≡ true
+  homes_more : (cs ds : List Cell) (atoms : List (Node L)) → length cs ≤ length ds → list_all (λ a. ltb a.cell (length cs)) atoms ≡ true → list_all (λ a. ltb a.cell (length ds)) atoms ≡ true
   homes_more cs ds atoms l h =
       each_weaker (λ a. ltb a.cell (length cs)) (λ a. ltb a.cell (length ds)) (λ a e. let w = ltb-true a.cell (length cs) e in lt-ltb a.cell (length ds) (omega arith)) atoms h
 

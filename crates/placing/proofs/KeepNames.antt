@@ -160,16 +160,13 @@ free_closed p names (f ∷ fs) d e =
 
 -- ** the names of free links after
 
-abbrev pub opened_names : List FreeLink → List Standing → List ℕ → List ℕ
-opened_names free ss links = free_names (opened free ss links)
-
 pub opened_least : (x : ℕ) (free : List FreeLink) (ss : List Standing) (links : List ℕ) → count x (free_names (opened free ss links)) ≤ count x (packed_names ss)
 unfolding opened count
 opened_least x free [] links = omega arith
 opened_least x free (s ∷ ss) [] = omega arith
 opened_least x free (s ∷ ss) (y ∷ ys) = let ih = opened_least x free ss ys in grind (arith, nat_tests)
 
-open_some : (n : Name) (free : List FreeLink) → 0 < count n.packed (free_names free) → is_some (open_link n free) ≡ true
+pub open_some : (n : Name) (free : List FreeLink) → 0 < count n.packed (free_names free) → is_some (open_link n free) ≡ true
 unfolding open_link count
 open_some n [] h = absurd (omega arith)
 open_some n (f ∷ fs) h = let ih = open_some n fs in grind (arith, nat_tests)

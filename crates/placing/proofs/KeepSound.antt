@@ -9,11 +9,12 @@ use Rattle.grammar.specs.Names.{position}
 use Rattle.grammar.specs.Reading.{Events}
 use Rattle.plan.specs.declared.tables.FreeLink.{FreeLink}
 use Rattle.plan.specs.Model.{Model, Node}
-use Rattle.plan.specs.Sound.{count, distinct, each, ends, open_name, port_links, rows}
+use Rattle.std.specs.List.{list_all}
+use Rattle.plan.specs.Sound.{count, distinct, ends, open_name, port_links, rows}
 use Rattle.plan.proofs.Each.{each_map}
 use Rattle.placing.specs.Keeps.{AddingKeeps, KeepsSound, OfText, SoundModel, connectors_of, fit_standing}
 use Rattle.placing.specs.Links.{free_after, link_at, opened, stays, unused}
-use Rattle.placing.specs.Orderly.{name_standings}
+use Rattle.grammar.specs.Events.{name_standings}
 use Rattle.placing.specs.Placing.{Placing, become, begun, hung, links_in, place_all, refreed, relinked}
 use Rattle.placing.proofs.KeepEach.{count_append, distinct_once, each_join, each_kept, each_standing, once_distinct, standing_each}
 use Rattle.placing.proofs.KeepAbsorb.{Twice, absorbs, absorbs_below, ends_absorbed, flat, joined_all, length_rows, map_rows, rows_below}
@@ -46,12 +47,12 @@ module _ {L : Type 0} (m : Model L) where
 
 -- ** the names of free links
 
-opens_fit : (free : List FreeLink) (ss : List Standing) (links : List ℕ) → each fit_standing ss ≡ true → each (λ f. open_name f.name) (opened free ss links) ≡ true
-unfolding each opened
+opens_fit : (free : List FreeLink) (ss : List Standing) (links : List ℕ) → list_all fit_standing ss ≡ true → list_all (λ f. open_name f.name) (opened free ss links) ≡ true
+unfolding opened
 opens_fit free [] links h = refl
 opens_fit free (s ∷ ss) [] h = refl
 opens_fit free (s ∷ ss) (x ∷ xs) h =
-    let both = and_parts (fit_standing s) (each fit_standing ss) h in
+    let both = and_parts (fit_standing s) (list_all fit_standing ss) h in
     let ih = opens_fit free ss xs both.1 in
     let fit = both.0 in
     grind arith
@@ -60,8 +61,7 @@ names_same : (b : List ℕ) (free : List FreeLink) → free_names (map (refreed 
 names_same b [] = refl
 names_same b (f ∷ fs) = ap (λ ts. f.name.packed ∷ ts) (names_same b fs)
 
-ports_same : {L : Type 0} (b : List ℕ) (atoms : List (Node L)) → each (λ a. leb (length a.links) 8) (map (relinked b) atoms) ≡ each (λ a. leb (length a.links) 8) atoms
-unfolding each
+ports_same : {L : Type 0} (b : List ℕ) (atoms : List (Node L)) → list_all (λ a. leb (length a.links) 8) (map (relinked b) atoms) ≡ list_all (λ a. leb (length a.links) 8) atoms
 ports_same b [] = refl
 ports_same b (a ∷ atoms) = ap₂ (λ n v. leb n 8 && v) (length-map a.links (become b)) (ports_same b atoms)
 
@@ -166,7 +166,7 @@ module _ {L : Type 0} (k : Kind L) (adding : AddingKeeps k) (m : Model L) (names
         let two = two_before x in
         grind arith
 
-    below_all : each (λ x. ltb x 8256) (pairs ++ all_ends) ≡ true
+    below_all : list_all (λ x. ltb x 8256) (pairs ++ all_ends) ≡ true
     below_all =
         standing_each (λ x. ltb x 8256) (pairs ++ all_ends) (λ x h.
         let sum = total_count x in
@@ -186,8 +186,8 @@ module _ {L : Type 0} (k : Kind L) (adding : AddingKeeps k) (m : Model L) (names
         ends_absorbed placed.became placed.atoms free
         ∙ ap (λ b. map (become b) (port_links placed.atoms ++ free_links free)) became_is
 
-    below_rows : each (λ z. ltb z (length (rows 0 8256))) (pairs ++ all_ends) ≡ true
-    below_rows = ap (λ n. each (λ z. ltb z n) (pairs ++ all_ends)) (length_rows 0 8256) ∙ below_all
+    below_rows : list_all (λ z. ltb z (length (rows 0 8256))) (pairs ++ all_ends) ≡ true
+    below_rows = ap (λ n. list_all (λ z. ltb z n) (pairs ++ all_ends)) (length_rows 0 8256) ∙ below_all
 
     twice_after : Twice (ends (hung k m names es))
     unfolding pairs
@@ -195,13 +195,13 @@ module _ {L : Type 0} (k : Kind L) (adding : AddingKeeps k) (m : Model L) (names
         subst Twice (sym ends_are)
         (absorbs (paired link 0 es) all_ends (rows 0 8256) below_rows (subst Twice (sym (map_rows 8256 (pairs ++ all_ends))) twice_all))
 
-    below_after : each (λ z. ltb z 8256) (ends (hung k m names es)) ≡ true
+    below_after : list_all (λ z. ltb z 8256) (ends (hung k m names es)) ≡ true
     unfolding pairs
     below_after =
-        ap (each (λ z. ltb z 8256)) ends_are
+        ap (list_all (λ z. ltb z 8256)) ends_are
         ∙ absorbs_below 8256 (paired link 0 es) all_ends (rows 0 8256) (rows_below 0 8256 8256 (omega arith)) below_rows
 
-    names_after : each (λ f. open_name f.name) free ≡ true
+    names_after : list_all (λ f. open_name f.name) free ≡ true
     unfolding links free
     names_after =
         each_join (λ f. open_name f.name) (filter (stays names) m.free) (opened m.free names links)

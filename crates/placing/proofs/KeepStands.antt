@@ -8,7 +8,8 @@ use Rattle.grammar.specs.Laws.{fault_of}
 use Rattle.grammar.specs.Reading.{Events, event, end, fault}
 use Rattle.plan.specs.Sound.{port_links}
 use Rattle.placing.specs.Keeps.{AddingKeeps, connectors_of}
-use Rattle.placing.specs.Orderly.{may_come, name_standings, orderly, proper_name}
+use Rattle.grammar.specs.Events.{name_standings, proper_name}
+use Rattle.placing.specs.Orderly.{may_come, orderly}
 use Rattle.placing.specs.Placing.{Placing, place_all, place_one}
 use Rattle.placing.proofs.KeepAbsorb.{flat, joined_all}
 use Rattle.placing.proofs.KeepAtoms.{links_new, links_port}

@@ -16,12 +16,14 @@ use Rattle.grammar.specs.Seen.{Seen, sees, word, number, name, comma, open_paren
 use Rattle.grammar.specs.State.{State, start, next_state, next_names, noted, times}
 use Rattle.grammar.specs.Names.{position}
 use Rattle.grammar.specs.Tests.{set_of, label_read, text_limit, third_standing}
-use Rattle.grammar.specs.Reading.{Events, event, follow, judged, event_of, labelled, setting, number_event, name_event, events_from, hang_events, complete, unless_lone, first_lone, underscored, at_place}
+use Rattle.text.specs.Packed.{underscored}
+use Rattle.grammar.specs.Reading.{Events, event, follow, judged, event_of, labelled, setting, number_event, name_event, events_from, hang_events, complete, unless_lone, first_lone, at_place}
 use Rattle.grammar.specs.Laws.{fault_of, spots, state_after}
 use Rattle.grammar.specs.Sheets.{text_names}
-use Rattle.plan.specs.Sound.{count, distinct, each}
+use Rattle.std.specs.List.{list_all}
+use Rattle.plan.specs.Sound.{count, distinct}
 use Rattle.plan.proofs.Each.{each_alike}
-use Rattle.placing.specs.Orderly.{name_standings, proper_name}
+use Rattle.grammar.specs.Events.{name_standings, proper_name}
 use Rattle.placing.specs.NamesOf.{packed_names, says, NamesLaw}
 use Rattle.placing.proofs.Judging.{Right, by_verdict, Named, sees_named}
 
@@ -37,24 +39,24 @@ unfolding times
 times_few n [] = omega arith
 times_few n (s ∷ ns) = let ih = times_few n ns in grind (arith, nat_tests)
 
-noted_other : (y : ℕ) (x : Name) (p : ℕ) (ns : List Standing) → (y ≡ x.packed → ⊥) → count y (packed_names (noted x p ns)) ≡ count y (packed_names ns)
+pub noted_other : (y : ℕ) (x : Name) (p : ℕ) (ns : List Standing) → (y ≡ x.packed → ⊥) → count y (packed_names (noted x p ns)) ≡ count y (packed_names ns)
 unfolding count noted
 noted_other y x p [] h = grind (arith, nat_tests)
 noted_other y x p (s ∷ ns) h = let ih = noted_other y x p ns h in grind (arith, nat_tests)
 
-noted_apart : (x : Name) (p : ℕ) (ns : List Standing) → distinct (packed_names ns) ≡ true → distinct (packed_names (noted x p ns)) ≡ true
+pub noted_apart : (x : Name) (p : ℕ) (ns : List Standing) → distinct (packed_names ns) ≡ true → distinct (packed_names (noted x p ns)) ≡ true
 unfolding distinct count noted
 noted_apart x p [] h = refl
 noted_apart x p (s ∷ ns) h = let ih = noted_apart x p ns in let other = noted_other s.name.packed x p ns in grind (arith, nat_tests)
 
-noted_proper : (x : Name) (p : ℕ) (ns : List Standing) → proper_name x ≡ true → each (λ s. proper_name s.name) ns ≡ true → each (λ s. proper_name s.name) (noted x p ns) ≡ true
-unfolding each noted
+noted_proper : (x : Name) (p : ℕ) (ns : List Standing) → proper_name x ≡ true → list_all (λ s. proper_name s.name) ns ≡ true → list_all (λ s. proper_name s.name) (noted x p ns) ≡ true
+unfolding noted
 noted_proper x p [] g h = and_from (proper_name x) true g refl
 noted_proper x p (s ∷ ns) g h =
-    let parts = and_parts (proper_name s.name) (each (λ r. proper_name r.name) ns) h in
-    elim (eqb s.name.packed x.packed) as (λ v. each (λ r. proper_name r.name) (cond v (record { name = s.name; twice = true; place = s.place } ∷ ns) (s ∷ noted x p ns)) ≡ true) [
+    let parts = and_parts (proper_name s.name) (list_all (λ r. proper_name r.name) ns) h in
+    elim (eqb s.name.packed x.packed) as (λ v. list_all (λ r. proper_name r.name) (cond v (record { name = s.name; twice = true; place = s.place } ∷ ns) (s ∷ noted x p ns)) ≡ true) [
       | true ↦ h
-      | false ↦ and_from (proper_name s.name) (each (λ r. proper_name r.name) (noted x p ns)) parts.0 (noted_proper x p ns g parts.1)
+      | false ↦ and_from (proper_name s.name) (list_all (λ r. proper_name r.name) (noted x p ns)) parts.0 (noted_proper x p ns g parts.1)
     ]
 
 pub has_row : (n : Name) (ns : List Standing) → 0 < times n ns → position n ns < length ns
@@ -68,28 +70,28 @@ lettered_one true false after place o h on = absurd (let z : ◌≡◌ {A = ℕ}
 lettered_one false true after place o h on = on h
 lettered_one false false after place o h on = on h
 
-lone_lettered : (ns : List Standing) → first_lone ns ≡ None → each (λ s. s.twice || not (underscored s.name)) ns ≡ true
-unfolding first_lone each
+lone_lettered : (ns : List Standing) → first_lone ns ≡ None → list_all (λ s. s.twice || not (underscored s.name)) ns ≡ true
+unfolding first_lone
 lone_lettered [] e = refl
-lone_lettered (s ∷ ns) e = lettered_one (underscored s.name) s.twice (each (λ r. r.twice || not (underscored r.name)) ns) s.place (first_lone ns) e (lone_lettered ns)
+lone_lettered (s ∷ ns) e = lettered_one (underscored s.name) s.twice (list_all (λ r. r.twice || not (underscored r.name)) ns) s.place (first_lone ns) e (lone_lettered ns)
 
 -- a row of its own name comes first, and leaves the others'
-own_past : (x v : ℕ) (f : ℕ → ℕ) (ns : List Standing) → count x (packed_names ns) ≡ 0 → each (λ r. eqb (f r.name.packed) (cond r.twice 2 1)) ns ≡ true → each (λ r. eqb (cond (eqb x r.name.packed) v (f r.name.packed)) (cond r.twice 2 1)) ns ≡ true
-unfolding each count
+own_past : (x v : ℕ) (f : ℕ → ℕ) (ns : List Standing) → count x (packed_names ns) ≡ 0 → list_all (λ r. eqb (f r.name.packed) (cond r.twice 2 1)) ns ≡ true → list_all (λ r. eqb (cond (eqb x r.name.packed) v (f r.name.packed)) (cond r.twice 2 1)) ns ≡ true
+unfolding count
 own_past x v f [] h e = refl
 own_past x v f (s ∷ ns) h e = let ih = own_past x v f ns in grind (arith, nat_tests)
 
 abbrev packed_times : List Standing → ℕ → ℕ
 packed_times ns x = times (record { packed = x }) ns
 
-own_rows : (ns : List Standing) → distinct (packed_names ns) ≡ true → each (λ r. eqb (packed_times ns r.name.packed) (cond r.twice 2 1)) ns ≡ true
-unfolding each distinct times
+own_rows : (ns : List Standing) → distinct (packed_names ns) ≡ true → list_all (λ r. eqb (packed_times ns r.name.packed) (cond r.twice 2 1)) ns ≡ true
+unfolding distinct times
 own_rows [] h = refl
 own_rows (s ∷ ns) h =
     let parts : (count s.name.packed (packed_names ns) ≡ 0) × (distinct (packed_names ns) ≡ true) = grind (arith, nat_tests) in
     let x = s.name.packed in
     let v = cond s.twice 2 1 in
-    and_from (eqb (cond (eqb x x) v (packed_times ns x)) v) (each (λ r. eqb (packed_times (s ∷ ns) r.name.packed) (cond r.twice 2 1)) ns)
+    and_from (eqb (cond (eqb x x) v (packed_times ns x)) v) (list_all (λ r. eqb (packed_times (s ∷ ns) r.name.packed) (cond r.twice 2 1)) ns)
     (eq-eqb (cond (eqb x x) v (packed_times ns x)) v (cond-true (eqb x x) v (packed_times ns x) (eq-eqb x x refl)))
     (own_past x v (packed_times ns) ns parts.0 (own_rows ns parts.1))
 
@@ -176,7 +178,7 @@ module _ {L : Type 0} (k : Kind L) where
   -- what holds of the table of names as tokens are read
   pub record Table (ns : List Standing) : Type 0 where
     pub apart : distinct (packed_names ns) ≡ true
-    pub proper : each (λ s. proper_name s.name) ns ≡ true
+    pub proper : list_all (λ s. proper_name s.name) ns ≡ true
 
   table_next : (t : Seen) (place : ℕ) (ns : List Standing) → Named t → Table ns → Table (next_names ns t place)
   table_next (word w) place ns n h = h
@@ -254,7 +256,7 @@ module _ {L : Type 0} (k : Kind L) where
       (λ c e. absurd (let z : ◌≡◌ {A = ℕ} 0 1 = cc in omega arith)) (λ c e. refl)
 
   pub names_right : NamesLaw k
-  unfolding times each distinct
+  unfolding times distinct
   names_right bs e =
       let names = text_names bs in
       let xs = name_standings (hang_events k 0 bs) in

@@ -1,7 +1,7 @@
 -- Which names are open after a text.
+use Rattle.placing.proofs.KeepNames.{times_none}
 use Rattle.std.proofs.Common.{◌≡◌, ℕ, suc, Bool, true, false, cond, not, ◌&&◌, ◌||◌, eqb, List, [], ◌∷◌, ◌++◌, map, length, drop, is_some, Some, None, filter, Option, sym, refl, ap, ◌∙◌, ap₂, arith}
 use Rattle.std.proofs.lemmas.Bool.{and_parts, eqb-true}
-use Rattle.std.proofs.lemmas.Bool.Decides.{nat_tests}
 use Rattle.text.specs.declared.packed.Name.{Name}
 use Rattle.grammar.specs.declared.stand.Standing.{Standing}
 use Rattle.grammar.specs.State.{times}
@@ -55,11 +55,6 @@ kept_open g n (f ∷ fs) =
     ∙ kept_step (g f.name.packed) e (is_open n others) (is_open n fs) (g n.packed) (λ t. ap g (eqb-true f.name.packed n.packed t)) (kept_open g n fs)
     ∙ ap (λ b. b && g n.packed) (sym (open_cons n f fs))
 
-absent_times : (n : Name) (ss : List Standing) → count n.packed (packed_names ss) ≡ 0 → times n ss ≡ 0
-unfolding count times
-absent_times n [] h = refl
-absent_times n (s ∷ ss) h = let ih = absent_times n ss in grind (arith, nat_tests)
-
 open_at : (free : List FreeLink) (n o : Name) → n.packed ≡ o.packed → is_open n free ≡ is_open o free
 open_at free n o e = ap (λ x. is_open (record { packed = x }) free) e
 
@@ -88,7 +83,7 @@ opened_open free n (s ∷ ss) (x ∷ xs) l d =
     ∙ ap (λ b. cond (opens free s) b (is_open n others)) (open_cons n f others)
     ∙ opened_step (eqb s.name.packed n.packed) s.twice (is_open s.name free) (is_open n free) (is_open n others) (times n ss)
     (λ t. open_at free s.name n (eqb-true s.name.packed n.packed t))
-    (λ t. absent_times n ss (ap (λ y. count y (packed_names ss)) (sym (eqb-true s.name.packed n.packed t)) ∙ parts.0))
+    (λ t. times_none n ss (ap (λ y. count y (packed_names ss)) (sym (eqb-true s.name.packed n.packed t)) ∙ parts.0))
     (opened_open free n ss xs (omega arith) parts.1)
 
 either : (a b : Bool) → ((a && not b) || (b && not a)) ≡ cond b (not a) a

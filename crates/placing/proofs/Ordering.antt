@@ -16,7 +16,8 @@ use Rattle.grammar.specs.Seen.{Seen, sees, word, number, name, comma, open_paren
 use Rattle.grammar.specs.State.{State, start, next_state, next_phase, next_cells}
 use Rattle.grammar.specs.Tests.{set_of, label_read, text_limit, inside}
 use Rattle.grammar.specs.Reading.{Events, follow, event_of, labelled, setting, events_from, hang_events, complete, unless_lone, first_lone, at_place, may_end}
-use Rattle.placing.specs.Orderly.{orderly, proper_name}
+use Rattle.grammar.specs.Events.{proper_name}
+use Rattle.placing.specs.Orderly.{orderly}
 use Rattle.placing.proofs.Judging.{Right, by_verdict, Named, sees_named}
 
 -- a connector lacks its second name

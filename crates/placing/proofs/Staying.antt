@@ -13,8 +13,9 @@ use Rattle.plan.specs.declared.tables.Cell.{Cell}
 use Rattle.plan.specs.Model.{Node}
 use Rattle.plan.specs.Sound.{alike, atoms_of, no_cell}
 use Rattle.placing.specs.Placing.{Placing, with_port, or_root, parent_of, with_set, place_one, place_all, relinked, become}
-use Rattle.placing.specs.Orderly.{orderly, may_come, depth_after, ports_after, halfway, proper_name}
-use Rattle.placing.specs.Counts.{summed, labels_at, cells_at, label_at, labels_in, cells_in, label_count}
+use Rattle.grammar.specs.Events.{depth_after, proper_name, summed}
+use Rattle.placing.specs.Orderly.{orderly, may_come, ports_after, halfway}
+use Rattle.placing.specs.Counts.{labels_at, cells_at, label_at, labels_in, cells_in, label_count}
 use Rattle.placing.specs.Laws.{shape}
 
 -- One more port.

@@ -1,12 +1,13 @@
 -- How many atoms, cells and connectors the events of a text have.
-use Rattle.std.specs.Prelude.{◌≡◌, ℕ, ◌+◌, ◌≤◌, true, false, cond, List, Some, None, Ok, Err, Result}
+use Rattle.std.specs.Prelude.{◌≡◌, ℕ, ◌≤◌, true, false, cond, List, Some, None, Ok, Err, Result}
 use Rattle.fault.specs.declared.Fault.{Fault}
 use Rattle.label.specs.Kind.{Kind}
 use Rattle.grammar.specs.declared.event.Event.{Event}
 use Rattle.grammar.specs.declared.event.Event.TheVariants as events
 use Rattle.grammar.specs.declared.sheet.Sheet.{Sheet}
 use Rattle.grammar.specs.Tests.{connector_limit}
-use Rattle.grammar.specs.Reading.{Events, event, end, fault, hang_events}
+use Rattle.grammar.specs.Reading.{Events, hang_events}
+use Rattle.grammar.specs.Events.{connectors_in, summed}
 use Rattle.grammar.specs.Laws.{fault_of}
 use Rattle.grammar.specs.Sheets.{once_in, sheet_of, text_names}
 use Rattle.plan.specs.Sound.{alike}
@@ -32,16 +33,6 @@ cells_at (events.Set j) = 0
 cells_at (events.First n) = 0
 cells_at (events.Second n) = 0
 
--- an event begins so many connectors
-abbrev pub connectors_at : {L : Type 0} → Event L → ℕ
-connectors_at (events.Label l) = 0
-connectors_at (events.Port n) = 0
-connectors_at events.Enter = 0
-connectors_at events.Leave = 0
-connectors_at (events.Set j) = 0
-connectors_at (events.First n) = 1
-connectors_at (events.Second n) = 0
-
 -- an event begins so many atoms with a label
 abbrev pub label_at : {L : Type 0} → Kind L → L → Event L → ℕ
 label_at k l (events.Label x) = cond (alike k l x) 1 0
@@ -52,20 +43,11 @@ label_at k l (events.Set j) = 0
 label_at k l (events.First n) = 0
 label_at k l (events.Second n) = 0
 
--- a number of each event, summed
-unfoldable pub summed : {L : Type 0} → (Event L → ℕ) → Events L → ℕ
-summed f (event e rest) = f e + summed f rest
-summed f end = 0
-summed f (fault x) = 0
-
 abbrev pub labels_in : {L : Type 0} → Events L → ℕ
 labels_in es = summed labels_at es
 
 abbrev pub cells_in : {L : Type 0} → Events L → ℕ
 cells_in es = summed cells_at es
-
-abbrev pub connectors_in : {L : Type 0} → Events L → ℕ
-connectors_in es = summed connectors_at es
 
 -- how many atoms of the text have a label
 abbrev pub label_count : {L : Type 0} → Kind L → L → Events L → ℕ

@@ -10,24 +10,27 @@ use Rattle.grammar.specs.Reading.{Events, event, end, fault, hang_events}
 use Rattle.grammar.specs.State.{times}
 use Rattle.plan.specs.declared.tables.Census.{Census}
 use Rattle.plan.specs.Model.{Model, Node}
-use Rattle.plan.specs.Sound.{all_lead, atom_limit, count, distinct, each, ends, free_limit, is_root, link_limit, open_name, port_limit, set_limit}
+use Rattle.std.specs.List.{list_all}
+use Rattle.text.specs.Limits.{port_limit, set_limit}
+use Rattle.plan.specs.Sound.{all_lead, atom_limit, count, distinct, ends, free_limit, is_root, link_limit, open_name}
 use Rattle.plan.specs.Tests.{register_test}
 use Rattle.register.specs.Rows.{added}
 use Rattle.placing.specs.Answer.{hung_text}
-use Rattle.placing.specs.Orderly.{name_standings, orderly, proper_name}
+use Rattle.grammar.specs.Events.{name_standings, proper_name}
+use Rattle.placing.specs.Orderly.{orderly}
 use Rattle.placing.specs.Placing.{hung}
 
 -- a sound plan, but for its tables: a field for each sentence of the rule that speaks of what they stand for
 pub record SoundModel {L : Type 0} (k : Kind L) (m : Model L) : Type 0 where
   pub root : is_root m.cells ≡ true
   pub depth : all_lead m.cells ≡ true
-  pub sets : each (λ c. nat_le c.set set_limit) m.cells ≡ true
-  pub labels : each (λ a. k.mine a.label) m.atoms ≡ true
-  pub homes : each (λ a. nat_lt a.cell (length m.cells)) m.atoms ≡ true
-  pub ports : each (λ a. nat_le (length a.links) port_limit) m.atoms ≡ true
-  pub links : each (λ x. nat_lt x link_limit) (ends m) ≡ true
-  pub pairs : each (λ x. nat_eq (count x (ends m)) 2) (ends m) ≡ true
-  pub names : each (λ f. open_name f.name) m.free ≡ true
+  pub sets : list_all (λ c. nat_le c.set set_limit) m.cells ≡ true
+  pub labels : list_all (λ a. k.mine a.label) m.atoms ≡ true
+  pub homes : list_all (λ a. nat_lt a.cell (length m.cells)) m.atoms ≡ true
+  pub ports : list_all (λ a. nat_le (length a.links) port_limit) m.atoms ≡ true
+  pub links : list_all (λ x. nat_lt x link_limit) (ends m) ≡ true
+  pub pairs : list_all (λ x. nat_eq (count x (ends m)) 2) (ends m) ≡ true
+  pub names : list_all (λ f. open_name f.name) m.free ≡ true
   pub apart : distinct (map (λ f. f.name.packed) m.free) ≡ true
   pub register : register_test k m.atoms m.register ≡ true
 
@@ -57,14 +60,14 @@ pub record OfText {L : Type 0} (k : Kind L) (names : List Standing) (es : Events
   -- each name stands as often as the table of names says
   pub told : (n : Name) → times n names ≡ count n.packed (name_standings es)
   pub different : distinct (map (λ s. s.name.packed) names) ≡ true
-  pub fit : each fit_standing names ≡ true
+  pub fit : list_all fit_standing names ≡ true
   pub few : connectors_of es ≤ 64
 
 -- one atom more keeps the register right
 abbrev pub AddingKeeps : {L : Type 0} → Kind L → Type 0
 AddingKeeps {L} k =
     (nodes : List (Node L)) (rows : List (Census L)) (a : Node L)
-    → register_test k nodes rows ≡ true → each (λ b. k.mine b.label) nodes ≡ true → k.mine a.label ≡ true
+    → register_test k nodes rows ≡ true → list_all (λ b. k.mine b.label) nodes ≡ true → k.mine a.label ≡ true
     → register_test k (nodes ++ (a ∷ [])) (added k a.label rows) ≡ true
 
 -- a text hung on a sound plan leaves a sound plan, where its atoms and free links are not too many

@@ -10,7 +10,7 @@ use Rattle.plan.specs.Model.{Model, Node}
 use Rattle.plan.specs.Sound.{atoms_of, count}
 use Rattle.placing.specs.Links.{open_link, opens}
 use Rattle.placing.specs.Answer.{hung_text}
-use Rattle.placing.specs.Orderly.{name_standings}
+use Rattle.grammar.specs.Events.{name_standings}
 use Rattle.placing.specs.Counts.{cells_in, label_count, labels_in}
 
 -- a name is open

@@ -5,11 +5,13 @@ use Rattle.text.specs.declared.packed.Name.{Name}
 use Rattle.grammar.specs.declared.stand.Standing.{Standing}
 use Rattle.grammar.specs.Names.{position}
 use Rattle.grammar.specs.State.{times}
-use Rattle.grammar.specs.Reading.{hang_events, underscored}
+use Rattle.text.specs.Packed.{underscored}
+use Rattle.grammar.specs.Reading.{hang_events}
 use Rattle.grammar.specs.Laws.{fault_of}
 use Rattle.grammar.specs.Sheets.{text_names}
-use Rattle.plan.specs.Sound.{count, distinct, each}
-use Rattle.placing.specs.Orderly.{name_standings, proper_name}
+use Rattle.std.specs.List.{list_all}
+use Rattle.plan.specs.Sound.{count, distinct}
+use Rattle.grammar.specs.Events.{name_standings, proper_name}
 
 -- the names of a table, packed
 abbrev pub packed_names : List Standing → List ℕ
@@ -27,10 +29,10 @@ pub record NamesRight {L : Type 0} (k : Kind L) (bs : List ℕ) : Type 0 where
   pub few : (x : ℕ) → count x (name_standings (hang_events k 0 bs)) ≤ 2
   -- each name has one row
   pub apart : distinct (packed_names (text_names bs)) ≡ true
-  pub proper : each (λ s. proper_name s.name) (text_names bs) ≡ true
+  pub proper : list_all (λ s. proper_name s.name) (text_names bs) ≡ true
   -- a name that stands once begins with a letter
-  pub lettered : each (λ s. s.twice || not (underscored s.name)) (text_names bs) ≡ true
-  pub rows_right : each (says (name_standings (hang_events k 0 bs))) (text_names bs) ≡ true
+  pub lettered : list_all (λ s. s.twice || not (underscored s.name)) (text_names bs) ≡ true
+  pub rows_right : list_all (says (name_standings (hang_events k 0 bs))) (text_names bs) ≡ true
   -- a name that stands has a row
   pub rowed : (n : Name) → 0 < count n.packed (name_standings (hang_events k 0 bs)) → position n (text_names bs) < length (text_names bs)
 

@@ -1,27 +1,11 @@
 -- What the grammar sees to in the events of a text.
-use Rattle.std.specs.Prelude.{ℕ, ◌+◌, ◌-◌, Bool, true, false, not, ◌&&◌, List, [], ◌∷◌, ◌==◌, nat_le, nat_lt}
+use Rattle.std.specs.Prelude.{ℕ, ◌-◌, Bool, true, false, not, ◌&&◌, ◌==◌, nat_le, nat_lt}
 use Rattle.label.specs.Kind.{Kind}
-use Rattle.text.specs.declared.packed.Name.{Name}
-use Rattle.text.specs.Packed.{pack, spelling}
-use Rattle.text.specs.Shapes.{is_name}
 use Rattle.grammar.specs.declared.event.Event.{Event}
 use Rattle.grammar.specs.declared.event.Event.TheVariants as events
 use Rattle.grammar.specs.Reading.{Events, event, end, fault}
-use Rattle.plan.specs.Sound.{depth_limit, port_limit, set_limit}
-
--- a packed line name
-abbrev pub proper_name : Name → Bool
-proper_name n = is_name (spelling n.packed) && pack (spelling n.packed) == n.packed
-
--- how many cells are open after an event
-abbrev pub depth_after : {L : Type 0} → ℕ → Event L → ℕ
-depth_after d (events.Label l) = d
-depth_after d (events.Port n) = d
-depth_after d events.Enter = d + 1
-depth_after d events.Leave = d - 1
-depth_after d (events.Set j) = d
-depth_after d (events.First n) = d
-depth_after d (events.Second n) = d
+use Rattle.grammar.specs.Events.{depth_after, proper_name}
+use Rattle.text.specs.Limits.{depth_limit, port_limit, set_limit}
 
 -- how many ports more may follow an event
 abbrev pub ports_after : {L : Type 0} → ℕ → Event L → ℕ
@@ -58,18 +42,3 @@ unfoldable pub orderly : {L : Type 0} → Kind L → ℕ → ℕ → Bool → Ev
 orderly k d p c (event e rest) = may_come k d p c e && orderly k (depth_after d e) (ports_after p e) (halfway e) rest
 orderly k d p c end = d == 0 && not c
 orderly k d p c (fault f) = true
-
-abbrev pub event_names : {L : Type 0} → Event L → List ℕ → List ℕ
-event_names (events.Label l) ns = ns
-event_names (events.Port n) ns = n.packed ∷ ns
-event_names events.Enter ns = ns
-event_names events.Leave ns = ns
-event_names (events.Set j) ns = ns
-event_names (events.First n) ns = n.packed ∷ ns
-event_names (events.Second n) ns = n.packed ∷ ns
-
--- the standings of names in events, packed, in their order
-unfoldable pub name_standings : {L : Type 0} → Events L → List ℕ
-name_standings (event e rest) = event_names e (name_standings rest)
-name_standings end = []
-name_standings (fault f) = []

@@ -1,50 +1,22 @@
 -- Counting the ends of links.
-use Rattle.std.proofs.Common.{◌≡◌, ℕ, zero, suc, ◌+◌, ◌<◌, ◌≤◌, Bool, true, false, cond, ◌&&◌, eqb, ltb, List, [], ◌∷◌, ◌++◌, map, length, get_or, take, set, replicate, sym, refl, ap, ◌∙◌, ap₂, ⊎_elim, arith, length-set, get_or-set_other, get_or-set_same}
+use Rattle.std.proofs.Common.{◌≡◌, ℕ, zero, suc, ◌+◌, ◌<◌, ◌≤◌, Bool, true, false, cond, ◌&&◌, eqb, ltb, List, [], ◌∷◌, ◌++◌, map, length, get_or, set, replicate, sym, refl, ap, ◌∙◌, ⊎_elim, arith, length-set, get_or-set_other, get_or-set_same}
 use lib.ListN.{length-replicate}
 use Rattle.std.proofs.lemmas.Bool.{and_left, cases_lt, le-ltb, lt-ltb}
 use Rattle.std.proofs.lemmas.Bool.Decides.{nat_tests}
-use Rattle.text.proofs.Slices.{past, at_first, at_none}
 use Rattle.plan.specs.declared.tables.Atom.{Atom}
 use Rattle.plan.specs.declared.tables.FreeLink.{FreeLink}
 use Rattle.plan.specs.Model.{node_of}
-use Rattle.plan.specs.Sound.{each, count, port_links}
+use Rattle.std.proofs.lemmas.List.Folds.{flat_map-map}
+use Rattle.std.proofs.lemmas.List.Sums.{fold-append}
+use Rattle.std.specs.List.{flat_map, list_all}
+use Rattle.plan.specs.Sound.{count, port_links}
 use Rattle.plan.specs.Tally.{bumped, tallied, is_twice}
 use Rattle.plan.specs.Tests.{links_test}
-use Rattle.plan.proofs.Each.{each_append, each_map, each_alike, each_both}
-use Rattle.plan.proofs.Naming.{no_link}
-
--- a turn of each loop
-pub tallied_one : (s counts : List ℕ) → 0 < length s → tallied s counts ≡ tallied (past 1 s) (bumped (get_or s 0 0) counts)
-unfolding tallied
-tallied_one s counts h = ap (λ t. tallied t counts) (at_first 0 s h)
-
-pub tallied_none : (s counts : List ℕ) → length s ≡ 0 → tallied s counts ≡ counts
-unfolding tallied
-tallied_none s counts h = ap (λ t. tallied t counts) (at_none s h)
+use Rattle.plan.proofs.Each.{each_alike, each_both}
 
 pub tallied_append : (s t counts : List ℕ) → tallied (s ++ t) counts ≡ tallied t (tallied s counts)
 unfolding tallied
-tallied_append [] t counts = refl
-tallied_append (x ∷ s) t counts = tallied_append s t (bumped x counts)
-
-pub ports_one : {L : Type 0} (x : Atom L) (s : List (Atom L)) (counts : List ℕ) → 0 < length s → x ≡ get_or s 0 x → tallied (port_links (map node_of s)) counts ≡ tallied (port_links (map node_of (past 1 s))) (tallied (take x.arity x.links) counts)
-unfolding port_links
-ports_one x s counts h is =
-    ap (λ t. tallied (port_links (map node_of t)) counts) (at_first x s h)
-    ∙ tallied_append (node_of (get_or s 0 x)).links (port_links (map node_of (past 1 s))) counts
-    ∙ ap (λ a. tallied (port_links (map node_of (past 1 s))) (tallied (node_of a).links counts)) (sym is)
-
-pub ports_none : {L : Type 0} (s : List (Atom L)) (counts : List ℕ) → length s ≡ 0 → tallied (port_links (map node_of s)) counts ≡ counts
-unfolding port_links tallied
-ports_none s counts h = ap (λ t. tallied (port_links (map node_of t)) counts) (at_none s h)
-
-pub free_one : (s : List FreeLink) (counts : List ℕ) → 0 < length s → tallied (map (λ f. f.link) s) counts ≡ tallied (map (λ f. f.link) (past 1 s)) (bumped (get_or s 0 no_link).link counts)
-unfolding tallied
-free_one s counts h = ap (λ t. tallied (map (λ f. f.link) t) counts) (at_first no_link s h)
-
-pub free_none : (s : List FreeLink) (counts : List ℕ) → length s ≡ 0 → tallied (map (λ f. f.link) s) counts ≡ counts
-unfolding tallied
-free_none s counts h = ap (λ t. tallied (map (λ f. f.link) t) counts) (at_none s h)
+tallied_append s t counts = fold-append (λ n x. bumped x n) counts s t
 
 -- the counters say how often a link stands
 pub length_bumped : (y : ℕ) (counts : List ℕ) → length (bumped y counts) ≡ length counts
@@ -109,19 +81,13 @@ is_twice_right s x =
     (λ (h : 8256 ≤ x). and_left (ltb x 8256) _ (le-ltb x 8256 h) ∙ sym (and_left (ltb x 8256) _ (le-ltb x 8256 h)))
     (cases_lt x 8256)
 
-each_ports : {L : Type 0} (p : ℕ → Bool) (atoms : List (Atom L)) → each p (port_links (map node_of atoms)) ≡ each (λ a. each p (node_of a).links) atoms
-unfolding each port_links
-each_ports p [] = refl
-each_ports p (a ∷ atoms) =
-    each_append p (node_of a).links (port_links (map node_of atoms)) ∙ ap (λ b. each p (node_of a).links && b) (each_ports p atoms)
-
-pub links_right : {L : Type 0} (atoms : List (Atom L)) (free : List FreeLink) (first second : List ℕ) → first ≡ tallied (port_links (map node_of atoms)) (replicate 8256 0) → second ≡ tallied (map (λ f. f.link) free) first → (each (λ a. each (is_twice second) (node_of a).links) atoms && each (λ f. is_twice second f.link) free) ≡ links_test (map node_of atoms) free
-links_right atoms free first second e₁ e₂ =
+pub links_right : {L : Type 0} (atoms : List (Atom L)) (free : List FreeLink) (counts : List ℕ) → counts ≡ tallied (map (λ f. f.link) free) (tallied (port_links (map node_of atoms)) (replicate 8256 0)) → list_all (is_twice counts) (flat_map (λ a. (node_of a).links) atoms ++ map (λ f. f.link) free) ≡ links_test (map node_of atoms) free
+unfolding port_links
+links_right atoms free counts e =
     let ports = port_links (map node_of atoms) in
     let links = map (λ f. f.link) free in
     let s = ports ++ links in
-    let e : second ≡ tallied s (replicate 8256 0) = e₂ ∙ ap (tallied links) e₁ ∙ sym (tallied_append ports links (replicate 8256 0)) in
-    ap₂ ◌&&◌ (sym (each_ports (is_twice second) atoms)) (sym (each_map (is_twice second) (λ f. f.link) free))
-    ∙ sym (each_append (is_twice second) ports links)
-    ∙ each_alike (is_twice second) (λ x. ltb x 8256 && eqb (count x s) 2) (λ x. ap (λ t. is_twice t x) e ∙ is_twice_right s x) s
+    let zeros = replicate 8256 0 in
+    ap (λ t. list_all (is_twice counts) (t ++ links)) (sym (flat_map-map (λ n. n.links) node_of atoms))
+    ∙ each_alike (is_twice counts) (λ x. ltb x 8256 && eqb (count x s) 2) (λ x. ap (λ t. is_twice t x) (e ∙ sym (tallied_append ports links zeros)) ∙ is_twice_right s x) s
     ∙ each_both (λ x. ltb x 8256) (λ x. eqb (count x s) 2) s

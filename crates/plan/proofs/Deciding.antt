@@ -1,12 +1,31 @@
 -- The one test decides soundness.
-use Rattle.std.proofs.Common.{◌≡◌, ℕ, ◌-◌, Bool, true, ◌&&◌, ltb, length, take, Decides, sym, ap, ◌∙◌, arith}
+use Rattle.std.proofs.Common.{◌≡◌, Bool, true, false, ◌&&◌, eqb, ltb, List, length, map, refl, ap₂, take, Decides, sym, ap, ◌∙◌}
 use Rattle.std.proofs.lemmas.Bool.{and_parts, and_from}
 use Rattle.label.specs.Kind.{Kind}
+use Rattle.plan.specs.declared.tables.Atom.{Atom}
+use Rattle.plan.specs.declared.tables.Census.{Census}
 use Rattle.plan.specs.declared.tables.Plan.{Plan}
 use Rattle.plan.specs.Model.{model_of, node_of}
-use Rattle.plan.specs.Sound.{Sound, counts_fit}
-use Rattle.plan.specs.Tests.{sound_test, tables_test}
-use Rattle.plan.proofs.Each.{each_map}
+use Rattle.std.specs.List.{list_all}
+use Rattle.plan.specs.Places.{census_test}
+use Rattle.plan.specs.Sound.{Sound, ascending, atoms_of, registered}
+use Rattle.plan.specs.Tests.{register_test, sound_test}
+use Rattle.plan.proofs.Each.{each_both, each_map}
+
+-- the register's tests, as the code makes them: whether the rows can be searched, and then what they say
+pub register_by : {L : Type 0} (k : Kind L) (atoms : List (Atom L)) (rows : List (Census L)) (b : Bool) → b ≡ (ascending k rows && list_all (λ c. k.mine c.label) rows) → register_test k (map node_of atoms) rows ≡ (b && census_test k atoms rows)
+register_by k atoms rows b e =
+    let nodes = map node_of atoms in
+    let says = λ (c : Census _). ltb 0 c.atoms && eqb c.atoms (atoms_of k c.label nodes) in
+    ap (λ v. ascending k rows && v)
+    (ap₂ ◌&&◌ (each_both (λ c. k.mine c.label) says rows) (each_map (λ a. registered k a.label rows) node_of atoms)
+    ∙ and_assoc (list_all (λ c. k.mine c.label) rows) (list_all says rows) (list_all (λ a. registered k a.label rows) atoms))
+    ∙ sym (and_assoc (ascending k rows) (list_all (λ c. k.mine c.label) rows) (census_test k atoms rows))
+    ∙ ap (λ v. v && census_test k atoms rows) (sym e)
+  where
+    and_assoc : (x y z : Bool) → ((x && y) && z) ≡ (x && (y && z))
+    and_assoc true y z = refl
+    and_assoc false y z = refl
 
 pub decided : {L : Type 0} (k : Kind L) (p : Plan L) → Decides (sound_test k p) (Sound k p)
 decided k p =
@@ -51,16 +70,3 @@ decided k p =
           (and_from _ _ (and_from _ _ s.names s.apart)
           (and_from _ _ s.order (and_from _ _ s.rows_right s.complete))))))),
     )
-
-less_none : (n : ℕ) → n - 0 ≡ n
-less_none n = omega arith
-
--- the tables as the code cuts them, once the counts fit
-pub when_cut : {L : Type 0} (k : Kind L) (p : Plan L) (r : Bool) → counts_fit p ≡ true → r ≡ tables_test k (take (p.cell_count - 0) p.cells.now) (take (p.atom_count - 0) p.atoms.now) (take (p.free_count - 0) p.free.now) (take (p.label_count - 0) p.register.now) → r ≡ sound_test k p
-when_cut k p r h e =
-    e
-    ∙ ap (λ n. tables_test k (take n p.cells.now) (take (p.atom_count - 0) p.atoms.now) (take (p.free_count - 0) p.free.now) (take (p.label_count - 0) p.register.now)) (less_none p.cell_count)
-    ∙ ap (λ n. tables_test k (take p.cell_count p.cells.now) (take n p.atoms.now) (take (p.free_count - 0) p.free.now) (take (p.label_count - 0) p.register.now)) (less_none p.atom_count)
-    ∙ ap (λ n. tables_test k (take p.cell_count p.cells.now) (take p.atom_count p.atoms.now) (take n p.free.now) (take (p.label_count - 0) p.register.now)) (less_none p.free_count)
-    ∙ ap (λ n. tables_test k (take p.cell_count p.cells.now) (take p.atom_count p.atoms.now) (take p.free_count p.free.now) (take n p.register.now)) (less_none p.label_count)
-    ∙ sym (ap (λ b. b && tables_test k (take p.cell_count p.cells.now) (take p.atom_count p.atoms.now) (take p.free_count p.free.now) (take p.label_count p.register.now)) h)

@@ -1,4 +1,3 @@
-pub mod Census
 pub mod Counting
 pub mod Deciding
 pub mod Each

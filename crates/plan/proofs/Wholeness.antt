@@ -5,25 +5,26 @@ use Rattle.label.specs.Kind.{Kind}
 use Rattle.plan.specs.declared.tables.Cell.{Cell}
 use Rattle.plan.specs.declared.tables.Plan.{Plan}
 use Rattle.plan.specs.Model.{model_of}
-use Rattle.plan.specs.Sound.{Sound, count, each, ends, leads, no_cell, onward, rows}
+use Rattle.std.specs.List.{list_all}
+use Rattle.plan.specs.Sound.{Sound, count, ends, leads, no_cell, onward, rows}
 use Rattle.plan.specs.Whole.{Whole, climbs}
 
 -- what passes of every number passes of each that stands
-each_standing : (p : ℕ → Bool) (s : List ℕ) (x : ℕ) → each p s ≡ true → 0 < count x s → p x ≡ true
-unfolding each count
+each_standing : (p : ℕ → Bool) (s : List ℕ) (x : ℕ) → list_all p s ≡ true → 0 < count x s → p x ≡ true
+unfolding count
 each_standing p [] x h k = absurd (omega arith)
 each_standing p (y ∷ s) x h k =
-    let both = and_parts (p y) (each p s) h in
+    let both = and_parts (p y) (list_all p s) h in
     ⊎_elim
     (λ (e : x ≡ y). ap p e ∙ both.0)
     (λ (e : x ≡ y → ⊥). let n : cond (eqb x y) (suc (count x s)) (count x s) ≡ count x s = cond-false (eqb x y) (suc (count x s)) (count x s) (ne_eqb x y e) in each_standing p s x both.1 (omega arith))
     (cases_eq x y)
 
-each_row : (p : ℕ → Bool) (j n i : ℕ) → each p (rows j n) ≡ true → j ≤ i → i < j + n → p i ≡ true
-unfolding each rows
+each_row : (p : ℕ → Bool) (j n i : ℕ) → list_all p (rows j n) ≡ true → j ≤ i → i < j + n → p i ≡ true
+unfolding rows
 each_row p j zero i h a b = absurd (omega arith)
 each_row p j (suc n) i h a b =
-    let both = and_parts (p j) (each p (rows (suc j) n)) h in
+    let both = and_parts (p j) (list_all p (rows (suc j) n)) h in
     ⊎_elim
     (λ (e : i ≡ j). ap p e ∙ both.0)
     (λ (e : i ≡ j → ⊥). each_row p (suc j) n i both.1 (omega arith) (omega arith))

@@ -1,18 +1,15 @@
 -- When a plan is sound.
 use Rattle.std.specs.Prelude.{◌≡◌, ℕ, zero, suc, ◌/◌, ◌^◌, min, Bool, true, false, cond, not, ◌&&◌, ◌||◌, ltb, leb, List, [], ◌∷◌, ◌++◌, map, length, take, Some, None, Option, ◌==◌, nat_eq, nat_le, nat_lt, slice_index_or}
+use Rattle.std.specs.List.{flat_map, list_all}
 use Rattle.label.specs.Kind.{Kind}
 use Rattle.text.specs.declared.packed.Name.{Name}
-use Rattle.text.specs.Packed.{pack, spelling}
+use Rattle.text.specs.Limits.{depth_limit, port_limit, set_limit}
+use Rattle.text.specs.Packed.{pack, spelling, underscored}
 use Rattle.text.specs.Shapes.{is_name}
 use Rattle.plan.specs.declared.tables.Cell.{Cell}
 use Rattle.plan.specs.declared.tables.Census.{Census}
 use Rattle.plan.specs.declared.tables.Plan.{Plan}
 use Rattle.plan.specs.Model.{Node, Model, model_of}
-
--- every row passes
-unfoldable pub each : {A : Type 0} → (A → Bool) → List A → Bool
-each p [] = true
-each p (x ∷ xs) = p x && each p xs
 
 -- how often a number stands in a list
 unfoldable pub count : ℕ → List ℕ → ℕ
@@ -41,17 +38,8 @@ free_limit = 64
 abbrev pub label_limit : ℕ
 label_limit = 1024
 
-abbrev pub port_limit : ℕ
-port_limit = 8
-
 abbrev pub link_limit : ℕ
 link_limit = 8256
-
-abbrev pub set_limit : ℕ
-set_limit = 15
-
-abbrev pub depth_limit : ℕ
-depth_limit = 16
 
 -- no count passes its table
 abbrev pub counts_fit : {L : Type 0} → Plan L → Bool
@@ -88,19 +76,18 @@ leads (suc n) cs i = i == 0 || onward (λ p. leads n cs p) (slice_index_or cs i 
 
 -- each cell, by its row, leads to the root
 abbrev pub all_lead : List Cell → Bool
-all_lead cs = each (leads depth_limit cs) (rows 0 (length cs))
+all_lead cs = list_all (leads depth_limit cs) (rows 0 (length cs))
 
 -- the links at ports, then those of free links: the ends of the plan's links
 unfoldable pub port_links : {L : Type 0} → List (Node L) → List ℕ
-port_links [] = []
-port_links (a ∷ atoms) = a.links ++ port_links atoms
+port_links atoms = flat_map (λ a. a.links) atoms
 
 abbrev pub ends : {L : Type 0} → Model L → List ℕ
 ends m = port_links m.atoms ++ map (λ f. f.link) m.free
 
 -- a line name that begins with a letter
 abbrev pub open_name : Name → Bool
-open_name n = is_name (spelling n.packed) && (pack (spelling n.packed) == n.packed && not (n.packed / 2 ^ 56 == 95))
+open_name n = is_name (spelling n.packed) && (pack (spelling n.packed) == n.packed && not (underscored n))
 
 -- two labels are the same where neither is lower
 abbrev pub alike : {L : Type 0} → Kind L → L → L → Bool
@@ -134,14 +121,14 @@ pub record Sound {L : Type 0} (k : Kind L) (p : Plan L) : Type 0 where
   pub counts : counts_fit p ≡ true
   pub root : is_root (model_of p).cells ≡ true
   pub depth : all_lead (model_of p).cells ≡ true
-  pub sets : each (λ c. leb c.set set_limit) (model_of p).cells ≡ true
-  pub labels : each (λ a. k.mine a.label) (model_of p).atoms ≡ true
-  pub homes : each (λ a. ltb a.cell (length (model_of p).cells)) (model_of p).atoms ≡ true
-  pub ports : each (λ a. leb a.arity port_limit) (take p.atom_count p.atoms.now) ≡ true
-  pub links : each (λ x. ltb x link_limit) (ends (model_of p)) ≡ true
-  pub pairs : each (λ x. nat_eq (count x (ends (model_of p))) 2) (ends (model_of p)) ≡ true
-  pub names : each (λ f. open_name f.name) (model_of p).free ≡ true
+  pub sets : list_all (λ c. leb c.set set_limit) (model_of p).cells ≡ true
+  pub labels : list_all (λ a. k.mine a.label) (model_of p).atoms ≡ true
+  pub homes : list_all (λ a. ltb a.cell (length (model_of p).cells)) (model_of p).atoms ≡ true
+  pub ports : list_all (λ a. leb a.arity port_limit) (take p.atom_count p.atoms.now) ≡ true
+  pub links : list_all (λ x. ltb x link_limit) (ends (model_of p)) ≡ true
+  pub pairs : list_all (λ x. nat_eq (count x (ends (model_of p))) 2) (ends (model_of p)) ≡ true
+  pub names : list_all (λ f. open_name f.name) (model_of p).free ≡ true
   pub apart : distinct (map (λ f. f.name.packed) (model_of p).free) ≡ true
   pub order : ascending k (model_of p).register ≡ true
-  pub rows_right : each (row_right k (model_of p).atoms) (model_of p).register ≡ true
-  pub complete : each (λ a. registered k a.label (model_of p).register) (model_of p).atoms ≡ true
+  pub rows_right : list_all (row_right k (model_of p).atoms) (model_of p).register ≡ true
+  pub complete : list_all (λ a. registered k a.label (model_of p).register) (model_of p).atoms ≡ true

@@ -7,31 +7,33 @@ use Rattle.plan.specs.declared.tables.FreeLink.{FreeLink}
 use Rattle.plan.specs.declared.tables.Census.{Census}
 use Rattle.plan.specs.declared.tables.Plan.{Plan}
 use Rattle.plan.specs.Model.{Node, node_of}
-use Rattle.plan.specs.Sound.{each, count, distinct, set_limit, port_limit, link_limit, counts_fit, is_root, all_lead, port_links, open_name, ascending, registered, row_right}
+use Rattle.std.specs.List.{list_all}
+use Rattle.text.specs.Limits.{set_limit, port_limit}
+use Rattle.plan.specs.Sound.{count, distinct, link_limit, counts_fit, is_root, all_lead, port_links, open_name, ascending, registered, row_right}
 
 -- what is asked of the cells
 abbrev pub cells_test : List Cell → Bool
-cells_test cs = is_root cs && (all_lead cs && each (λ c. nat_le c.set set_limit) cs)
+cells_test cs = is_root cs && (all_lead cs && list_all (λ c. nat_le c.set set_limit) cs)
 
 -- of the atoms, one by one, with this many cells
 abbrev pub atoms_test : {L : Type 0} → Kind L → ℕ → List (Atom L) → Bool
 atoms_test k cells atoms =
-    each (λ a. k.mine a.label) atoms && (each (λ a. nat_lt a.cell cells) atoms && each (λ a. nat_le a.arity port_limit) atoms)
+    list_all (λ a. k.mine a.label) atoms && (list_all (λ a. nat_lt a.cell cells) atoms && list_all (λ a. nat_le a.arity port_limit) atoms)
 
 -- of the free links' names
 abbrev pub names_test : List FreeLink → Bool
-names_test free = each (λ f. open_name f.name) free && distinct (map (λ f. f.name.packed) free)
+names_test free = list_all (λ f. open_name f.name) free && distinct (map (λ f. f.name.packed) free)
 
 -- of the register
 abbrev pub register_test : {L : Type 0} → Kind L → List (Node L) → List (Census L) → Bool
 register_test k nodes register =
-    ascending k register && (each (row_right k nodes) register && each (λ a. registered k a.label register) nodes)
+    ascending k register && (list_all (row_right k nodes) register && list_all (λ a. registered k a.label register) nodes)
 
 -- of the ends of links
 abbrev pub links_test : {L : Type 0} → List (Node L) → List FreeLink → Bool
 links_test nodes free =
-    each (λ x. nat_lt x link_limit) (port_links nodes ++ map (λ f. f.link) free)
-    && each (λ x. nat_eq (count x (port_links nodes ++ map (λ f. f.link) free)) 2) (port_links nodes ++ map (λ f. f.link) free)
+    list_all (λ x. nat_lt x link_limit) (port_links nodes ++ map (λ f. f.link) free)
+    && list_all (λ x. nat_eq (count x (port_links nodes ++ map (λ f. f.link) free)) 2) (port_links nodes ++ map (λ f. f.link) free)
 
 -- of the tables, cut to the rows that count
 abbrev pub tables_test : {L : Type 0} → Kind L → List Cell → List (Atom L) → List FreeLink → List (Census L) → Bool

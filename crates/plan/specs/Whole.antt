@@ -2,7 +2,8 @@
 use Rattle.std.specs.Prelude.{◌≡◌, ℕ, ◌<◌, ◌≤◌, List, [], ◌∷◌, length, Some, slice_index_or}
 use Rattle.plan.specs.declared.tables.Cell.{Cell}
 use Rattle.plan.specs.Model.{Model}
-use Rattle.plan.specs.Sound.{count, depth_limit, ends, no_cell}
+use Rattle.text.specs.Limits.{depth_limit}
+use Rattle.plan.specs.Sound.{count, ends, no_cell}
 
 -- up from a cell: each row is the parent of the one before it, and the last is the root
 abbrev pub climbs : List Cell → ℕ → List ℕ → Type 0

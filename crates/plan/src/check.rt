@@ -18,21 +18,17 @@ use label::kind::Label;
 fn fits(count: usize, rows: usize, limit: usize) -> bool
     ensures { result ≡ nat_le count (min rows limit) }
 {
-    count <= rows && count <= limit
+    count <= rows.min(limit)
 }
 
 /// Whether no count passes its table.
 pub fn counts_fit<L: Label>(plan: &Plan<'_, L>) -> bool
     ensures { result ≡ counts_fit plan.now }
 {
-    let atoms = &*plan.atoms;
-    let cells = &*plan.cells;
-    let free = &*plan.free;
-    let register = &*plan.register;
-    fits(plan.atom_count, atoms.len(), ATOM_LIMIT)
-        && fits(plan.cell_count, cells.len(), CELL_LIMIT)
-        && fits(plan.free_count, free.len(), FREE_LIMIT)
-        && fits(plan.label_count, register.len(), LABEL_LIMIT)
+    fits(plan.atom_count, plan.atoms.len(), ATOM_LIMIT)
+        && fits(plan.cell_count, plan.cells.len(), CELL_LIMIT)
+        && fits(plan.free_count, plan.free.len(), FREE_LIMIT)
+        && fits(plan.label_count, plan.register.len(), LABEL_LIMIT)
 }
 
 /// Whether the tables, cut to the rows that count, are those of a sound plan.
@@ -58,17 +54,11 @@ pub fn is_sound<L: Label>(plan: &Plan<'_, L>) -> bool
     ensures decides { Decides result (Sound L.Label.kind plan.now) }
     ensures whole { result ≡ true → Whole (model_of plan.now) }
 {
-    if !counts_fit(plan) {
-        return false;
-    }
-    let cells = &*plan.cells;
-    let atoms = &*plan.atoms;
-    let free = &*plan.free;
-    let register = &*plan.register;
-    tables_sound(
-        &cells[0..plan.cell_count],
-        &atoms[0..plan.atom_count],
-        &free[0..plan.free_count],
-        &register[0..plan.label_count],
-    )
+    counts_fit(plan)
+        && tables_sound(
+            &plan.cells[..plan.cell_count],
+            &plan.atoms[..plan.atom_count],
+            &plan.free[..plan.free_count],
+            &plan.register[..plan.label_count],
+        )
 }

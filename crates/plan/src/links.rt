@@ -1,7 +1,8 @@
 //! The checks of a plan's links: their ends are counted in one pass, and looked at in a second.
-ghost use Rattle.std.specs.Prelude.{◌≡◌, map, take};
+ghost use Rattle.std.specs.Prelude.{◌≡◌, ◌++◌, map, take};
 ghost use Rattle.plan.specs.Model.{node_of};
-ghost use Rattle.plan.specs.Sound.{each, port_links};
+ghost use Rattle.std.specs.List.{flat_map, list_all};
+ghost use Rattle.plan.specs.Sound.{port_links};
 ghost use Rattle.plan.specs.Tally.{bumped, tallied, is_twice};
 ghost use Rattle.plan.specs.Tests.{links_test};
 
@@ -17,50 +18,38 @@ pub fn ports<L: Label>(atom: &Atom<L>) -> &[u16]
     ensures { result.now ≡ take atom.now.arity atom.now.links }
 {
     let links: &[u16] = &atom.links;
-    let n = atom.arity as usize;
-    if n < links.len() { &links[0..n] } else { links }
+    links.get(..usize::from(atom.arity)).unwrap_or(links)
 }
 
 /// Counts one more end of a link.
 fn tally_one(link: u16, counts: &mut [u8])
     ensures { counts.new ≡ bumped link counts.old }
 {
-    let i = link as usize;
+    let i = usize::from(link);
     if i < counts.len() && counts[i] < 3 {
         counts[i] += 1;
     }
 }
 
-/// Counts the ends that are listed.
-fn tally(links: &[u16], counts: &mut [u8])
-    ensures { counts.new ≡ tallied links.now counts.old }
-{
-    let mut rest = links;
-    while let [link, after @ ..] = rest {
-        tally_one(*link, counts);
-        rest = after;
-    }
-}
-
 /// Counts the ends at ports.
+#[tactic(auto, unfolding(crate::specs::Sound::port_links, crate::specs::Tally::tallied))]
 pub fn tally_ports<L: Label>(atoms: &[Atom<L>], counts: &mut [u8])
     ensures { counts.new ≡ tallied (port_links (map node_of atoms.now)) counts.old }
 {
-    let mut rest = atoms;
-    while let [atom, after @ ..] = rest {
-        tally(ports(atom), counts);
-        rest = after;
+    for atom in atoms {
+        for link in ports(atom) {
+            tally_one(*link, counts);
+        }
     }
 }
 
 /// Counts the ends that are free links.
+#[tactic(auto, unfolding(crate::specs::Tally::tallied))]
 pub fn tally_free(free: &[FreeLink], counts: &mut [u8])
     ensures { counts.new ≡ tallied (map (λ f. f.link) free.now) counts.old }
 {
-    let mut rest = free;
-    while let [end, after @ ..] = rest {
+    for end in free {
         tally_one(end.link, counts);
-        rest = after;
     }
 }
 
@@ -68,50 +57,19 @@ pub fn tally_free(free: &[FreeLink], counts: &mut [u8])
 fn is_twice(link: u16, counts: &[u8]) -> bool
     ensures { result ≡ is_twice counts.now link }
 {
-    let i = link as usize;
-    i < counts.len() && counts[i] == 2
+    counts.get(usize::from(link)) == Some(&2)
 }
 
-/// Whether every listed link was counted twice.
-fn all_twice(links: &[u16], counts: &[u8]) -> bool
-    ensures { result ≡ each (is_twice counts.now) links.now }
+/// Whether the link of each end was counted twice, at ports and free.
+fn ends_twice<L: Label>(atoms: &[Atom<L>], free: &[FreeLink], counts: &[u8]) -> bool
+    ensures { result ≡ list_all (is_twice counts.now) (flat_map (λ a. (node_of a).links) atoms.now ++ map (λ f. f.link) free.now) }
 {
-    let mut rest = links;
-    while let [link, after @ ..] = rest {
-        if !is_twice(*link, counts) {
-            return false;
-        }
-        rest = after;
-    }
-    true
-}
-
-/// Whether every link at a port was counted twice.
-fn ports_twice<L: Label>(atoms: &[Atom<L>], counts: &[u8]) -> bool
-    ensures { result ≡ each (λ a. each (is_twice counts.now) (node_of a).links) atoms.now }
-{
-    let mut rest = atoms;
-    while let [atom, after @ ..] = rest {
-        if !all_twice(ports(atom), counts) {
-            return false;
-        }
-        rest = after;
-    }
-    true
-}
-
-/// Whether the link of every free link was counted twice.
-fn free_twice(free: &[FreeLink], counts: &[u8]) -> bool
-    ensures { result ≡ each (λ f. is_twice counts.now f.link) free.now }
-{
-    let mut rest = free;
-    while let [end, after @ ..] = rest {
-        if !is_twice(end.link, counts) {
-            return false;
-        }
-        rest = after;
-    }
-    true
+    atoms
+        .iter()
+        .flat_map(|atom| ports(atom))
+        .copied()
+        .chain(free.iter().map(|end| end.link))
+        .all(|link| is_twice(link, counts))
 }
 
 /// Whether every link is low enough and has two ends.
@@ -121,5 +79,5 @@ pub(crate) fn links_sound<L: Label>(atoms: &[Atom<L>], free: &[FreeLink]) -> boo
     let mut counts = [0u8; LINKS];
     tally_ports(atoms, &mut counts);
     tally_free(free, &mut counts);
-    ports_twice(atoms, &counts) && free_twice(free, &counts)
+    ends_twice(atoms, free, &counts)
 }

@@ -1,23 +1,46 @@
 //! The checks of a plan's register.
-ghost use Rattle.std.specs.Prelude.{◌≡◌, ℕ, ◌≤◌, true, ◌&&◌, map, length, ◌==◌, nat_lt, slice_index};
+ghost use Rattle.std.specs.Prelude.{◌≡◌, ◌≤◌, true, ◌&&◌, map, length, ◌==◌, nat_lt, zip, position, is_some, IfSome};
+ghost use Rattle.std.specs.List.{list_all};
 ghost use Rattle.plan.specs.Model.{node_of};
-ghost use Rattle.plan.specs.Places.{Filed, census_test, counted, labelled, matched, place};
-ghost use Rattle.plan.specs.Sound.{ascending, each, first_above, registered};
+ghost use Rattle.plan.specs.Places.{Filed, labelled};
+ghost use Rattle.plan.specs.Sound.{alike, ascending, registered};
 ghost use Rattle.plan.specs.Tests.{register_test};
 
 use crate::atoms::is_label;
 use crate::limits::LABEL_LIMIT;
 use crate::tables::{Atom, Census};
 use label::kind::Label;
-use std::cmp::Ordering;
 
-/// Whether a label is lower than that of the first row, if there is one.
-fn is_below<L: Label>(label: L, rows: &[Census<L>]) -> bool
-    ensures { result ≡ first_above L.Label.kind label rows.now }
-{
-    match rows {
-        [row, ..] => matches!(label.compare(row.label), Ordering::Less),
-        [] => true,
+/// Rows that can be searched: each has a label of the kind, lower than the next.
+#[derive(Drop)]
+pub struct Register<'r, L: Label> {
+    pub rows: &'r [Census<L>],
+    ghost filed: { Filed L.Label.kind rows.now },
+}
+
+impl<'r, L: Label> Register<'r, L> {
+    /// The rows, if they can be searched.
+    pub fn of(rows: &'r [Census<L>]) -> Option<Register<'r, L>>
+        ensures is { is_some result ≡ (ascending L.Label.kind rows.now && list_all (λ c. L.Label.kind.mine c.label) rows.now) }
+        ensures same { IfSome result (λ r. r.rows.now ≡ rows.now) }
+    {
+        // No `then`: its closure would not know the fact that the type asks for.
+        if ascends(rows) && rows_known(rows) {
+            Some(Register { rows })
+        } else {
+            None
+        }
+    }
+
+    // A plan's tables are the caller's memory, and what stands there may be no label: so what is asked of one is a clause, and no type.
+    /// The row of a label, if there is one.
+    pub fn position(&self, label: L) -> Option<usize>
+        requires { L.Label.kind.mine label ≡ true }
+        ensures { result ≡ position (λ c. alike L.Label.kind label c.label) self.now.rows.now }
+    {
+        self.rows
+            .binary_search_by(|row| row.label.compare(label))
+            .ok()
     }
 }
 
@@ -25,138 +48,51 @@ fn is_below<L: Label>(label: L, rows: &[Census<L>]) -> bool
 fn ascends<L: Label>(rows: &[Census<L>]) -> bool
     ensures { result ≡ ascending L.Label.kind rows.now }
 {
-    let mut rest = rows;
-    while let [row, after @ ..] = rest {
-        if !is_below(row.label, after) {
-            return false;
-        }
-        rest = after;
-    }
-    true
+    rows.is_sorted_by(|row, next| row.label.compare(next.label).is_lt())
 }
 
+// Beside `labels_known` of atoms: one test of both would need a trait of what has a label.
 /// Whether every row has a label of the kind.
 fn rows_known<L: Label>(rows: &[Census<L>]) -> bool
-    ensures { result ≡ each (λ c. L.Label.kind.mine c.label) rows.now }
+    ensures { result ≡ list_all (λ c. L.Label.kind.mine c.label) rows.now }
 {
-    let mut rest = rows;
-    while let [row, after @ ..] = rest {
-        if !is_label(row.label) {
-            return false;
-        }
-        rest = after;
-    }
-    true
+    rows.iter().all(|row| is_label(row.label))
 }
 
-/// The row of a label, or the number of rows where the register lacks it: it is halved until one row is left.
-fn find_row<L: Label>(label: L, rows: &[Census<L>]) -> usize
-    requires filed { Filed L.Label.kind rows.now }
-    requires mine { L.Label.kind.mine label ≡ true }
-    ensures { result ≡ place L.Label.kind label rows.now }
-{
-    let mut low = 0;
-    let mut high = rows.len();
-    while low < high {
-        let middle = low + (high - low) / 2;
-        match rows[middle].label.compare(label) {
-            Ordering::Less => low = middle + 1,
-            Ordering::Equal => return middle,
-            Ordering::Greater => high = middle,
-        }
-    }
-    rows.len()
-}
-
+// A caller has the rows in its tables, and knows of them by a proof: here they become a `Register`.
 /// Whether the register has a label.
+#[tactic(auto, using(crate::proofs::Placing::registered_position))]
 pub fn is_registered<L: Label>(label: L, rows: &[Census<L>]) -> bool
     requires filed { Filed L.Label.kind rows.now }
     requires mine { L.Label.kind.mine label ≡ true }
     ensures { result ≡ registered L.Label.kind label rows.now }
 {
-    find_row(label, rows) < rows.len()
-}
-
-/// Whether the register has every atom's label.
-fn all_registered<L: Label>(atoms: &[Atom<L>], rows: &[Census<L>]) -> bool
-    requires filed { Filed L.Label.kind rows.now }
-    requires mine { labelled L.Label.kind atoms.now ≡ true }
-    ensures { result ≡ each (λ a. registered L.Label.kind a.label rows.now) atoms.now }
-{
-    let mut rest = atoms;
-    while let [atom, after @ ..] = rest {
-        if !is_registered(atom.label, rows) {
-            return false;
-        }
-        rest = after;
-    }
-    true
-}
-
-/// Counts each atom at the row of its label.
-fn tally_labels<L: Label>(atoms: &[Atom<L>], rows: &[Census<L>], counts: &mut [usize])
-    requires filed { Filed L.Label.kind rows.now }
-    requires mine { labelled L.Label.kind atoms.now ≡ true }
-    requires empty { (i : ℕ) → slice_index counts.old i ≡ 0 }
-    ensures { counts.new ≡ counted L.Label.kind rows.now (map node_of atoms.now) counts.old }
-{
-    let mut rest = atoms;
-    while let [atom, after @ ..] = rest {
-        let row = find_row(atom.label, rows);
-        if row < counts.len() {
-            counts[row] += 1;
-        }
-        rest = after;
-    }
-}
-
-/// Whether a row says a count, and it is not zero.
-fn says(atoms: u16, n: usize) -> bool
-    ensures { result ≡ (nat_lt 0 atoms && atoms == n) }
-{
-    atoms > 0 && atoms as usize == n
+    let register = Register { rows };
+    register.position(label).is_some()
 }
 
 /// Whether each row says its count, and none is zero.
 fn rows_match<L: Label>(rows: &[Census<L>], counts: &[usize]) -> bool
-    ensures { result ≡ matched rows.now counts.now }
+    ensures { result ≡ list_all (λ p. nat_lt 0 p.0.atoms && p.0.atoms == p.1) (zip rows.now counts.now) }
 {
-    let mut rest = rows;
-    let mut left = counts;
-    while let [row, after @ ..] = rest {
-        if let [n, more @ ..] = left {
-            if !says(row.atoms, *n) {
-                return false;
-            }
-            left = more;
-        } else {
-            return false;
-        }
-        rest = after;
-    }
-    true
+    rows.iter().zip(counts).all(|(row, count)| row.atoms > 0 && usize::from(row.atoms) == *count)
 }
 
-/// Whether the rows say the numbers of their atoms, and no atom's label is missing.
-fn census_right<L: Label>(atoms: &[Atom<L>], rows: &[Census<L>]) -> bool
-    requires filed { Filed L.Label.kind rows.now }
-    requires mine { labelled L.Label.kind atoms.now ≡ true }
-    requires room { length rows.now ≤ 1024 }
-    ensures { result ≡ census_test L.Label.kind atoms.now rows.now }
-{
-    let mut counts = [0usize; LABEL_LIMIT];
-    tally_labels(atoms, rows, &mut counts);
-    rows_match(rows, &counts) && all_registered(atoms, rows)
-}
-
-/// Whether the register is as a sound plan with these atoms has it.
+/// Whether the register is as a sound plan with these atoms has it: its rows can be searched, and say how many atoms have each label.
 pub(crate) fn register_sound<L: Label>(atoms: &[Atom<L>], rows: &[Census<L>]) -> bool
     requires mine { labelled L.Label.kind atoms.now ≡ true }
     requires room { length rows.now ≤ 1024 }
     ensures { result ≡ register_test L.Label.kind (map node_of atoms.now) rows.now }
 {
-    if !ascends(rows) {
+    let Some(register) = Register::of(rows) else {
         return false;
+    };
+    let mut counts = [0usize; LABEL_LIMIT];
+    for atom in atoms {
+        let Some(row) = register.position(atom.label) else {
+            return false;
+        };
+        counts[row] += 1;
     }
-    rows_known(rows) && census_right(atoms, rows)
+    rows_match(rows, &counts)
 }

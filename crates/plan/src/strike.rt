@@ -14,11 +14,8 @@ pub fn strike<L: Label>(plan: &mut Plan<'_, L>) -> Result<(), Fault>
     ensures tables { SameTables plan.old plan.new }
     ensures sound { is_ok result ≡ true → Sound L.Label.kind plan.new }
 {
-    if plan.cells.len() == 0 {
-        return Err(Fault {
-            refusal: Refusal::UnsoundPlan,
-            place: 0,
-        });
+    if plan.cells.is_empty() {
+        return Err(Refusal::UnsoundPlan.into());
     }
     plan.cells[0] = Cell {
         parent: None,

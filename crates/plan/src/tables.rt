@@ -18,7 +18,7 @@ pub struct Cell {
 }
 
 /// An open name, and the link that it is an end of.
-#[derive(Clone, Copy)]
+#[derive(Clone, Copy, Default)]
 pub struct FreeLink {
     pub name: Name,
     pub link: u16,
@@ -31,6 +31,7 @@ pub struct Census<L> {
     pub atoms: u16,
 }
 
+// The tables and their counts are the caller's memory, so they stand side by side in its own form, and no `Vec` holds them.
 /// A plan. Of each table the first rows count, as many as the number beside it says; the others are free.
 #[derive(Drop)]
 pub struct Plan<'a, L> {

@@ -29,12 +29,6 @@ fn word(bytes: &[u8]) -> WordLabel {
     WordLabel(packed(bytes))
 }
 
-fn name(bytes: &[u8]) -> Name {
-    Name {
-        packed: packed(bytes),
-    }
-}
-
 /// Whether a plan is sound, with one thing wrong or none: an atom on the root, one in a cell inside a cell, one in the outer cell;
 /// a link between two ports, one from a port to an open name, one between two open names.
 fn sound(wrong: Wrong) -> bool {
@@ -74,15 +68,15 @@ fn sound(wrong: Wrong) -> bool {
     ];
     let mut free = [
         FreeLink {
-            name: name(b"B"),
+            name: Name::new(b"B"),
             link: 8000,
         },
         FreeLink {
-            name: name(b"C"),
+            name: Name::new(b"C"),
             link: 5,
         },
         FreeLink {
-            name: name(b"D_9"),
+            name: Name::new(b"D_9"),
             link: 5,
         },
     ];
@@ -108,8 +102,8 @@ fn sound(wrong: Wrong) -> bool {
         Wrong::Arity => atoms[2].arity = 9,
         Wrong::Link => free[0].link = 8256,
         Wrong::OneEnd => atoms[1].arity = 0,
-        Wrong::LowerName => free[1].name = name(b"_1"),
-        Wrong::SameName => free[2].name = name(b"C"),
+        Wrong::LowerName => free[1].name = Name::new(b"_1"),
+        Wrong::SameName => free[2].name = Name::new(b"C"),
         Wrong::Register => register[0].label = word(b"c"),
         Wrong::Census => register[1].atoms = 1,
     }

@@ -3,7 +3,7 @@ use Rattle.std.specs.Prelude.{◌≡◌, ℕ, true, List, [], ◌∷◌, Some, r
 use Rattle.std.proofs.Common.{sym, ap, arith}
 use Rattle.std.proofs.lemmas.Bool.Decides.{nat_tests}
 use Rattle.text.specs.Classes.{class_of}
-use Rattle.text.specs.Shapes.{all}
+use Rattle.std.specs.List.{list_all}
 use Rattle.label.specs.declared.form.Form.{Form}
 use Rattle.label.specs.declared.form.Form.TheVariants.{Word, Number}
 use Rattle.label.specs.Kind.{Lawful, Shown, Sound}
@@ -14,7 +14,7 @@ abbrev the_zeros : ℕ → Zeros
 the_zeros n = record { held = n }
 
 zeros_shown : (a : Zeros) → zeros_kind.mine a ≡ true → Shown zeros_kind a
-unfolding all class_of
+unfolding class_of
 zeros_shown a h =
     let e : a.held ≡ 0 = grind (arith, nat_tests) in
     record { form = Number; bytes = 48 ∷ []; is = grind (arith, nat_tests); whole = refl; short = omega arith; back = ap (λ n. Some (the_zeros n)) (sym e) }

@@ -1,5 +1,5 @@
 //! Short hangs.
-use fault::{Fault, Layer};
+use fault::Layer;
 use grammar::read::read;
 use grammar::sheet::Sheet;
 use label::kind::Label;
@@ -8,16 +8,6 @@ use label::word_or_number::WordOrNumber;
 use std::process::Abort;
 use std::test::Fail;
 
-/// Whether a fault has a number, a layer and a place.
-pub(crate) fn is_fault(fault: &Fault, number: u8, text: bool, place: usize) -> bool {
-    let layer = match fault.layer() {
-        Layer::Text => text,
-        Layer::Grammar => !text,
-        _ => false,
-    };
-    layer && fault.number() == number && fault.place == place
-}
-
 /// A text is refused by a number at a place. Numbers to 4 are of the text, and the others of the grammar.
 pub(crate) fn refused<L: Label>(
     rt: &impl Abort,
@@ -25,60 +15,61 @@ pub(crate) fn refused<L: Label>(
     number: u8,
     place: usize,
 ) -> Result<(), Fail> {
-    match read::<L>(text) {
-        Ok(_) => Err(Fail::new("read without fault")),
-        Err(fault) => {
-            if is_fault(&fault, number, number <= 4, place) {
-                return Ok(());
-            }
-            assert_eq!(rt; fault.number(), number);
-            assert_eq!(rt; fault.place, place);
-            Err(Fail::new("another layer"))
-        }
+    let Err(fault) = read::<L>(text) else {
+        return Err(Fail::new("read without fault"));
+    };
+    let layer = if number <= 4 {
+        Layer::Text
+    } else {
+        Layer::Grammar
+    };
+    assert_eq!(rt;
+        (fault.number(), fault.layer(), fault.place),
+        (number, layer, place)
+    );
+    Ok(())
+}
+
+/// So many atoms, cells, connectors and names that stand once.
+pub(crate) fn sheet(atoms: usize, cells: usize, connectors: usize, once: usize) -> Sheet {
+    Sheet {
+        atoms,
+        cells,
+        connectors,
+        once,
     }
 }
 
-/// A text holds so many atoms, cells, connectors and names that stand once.
-pub(crate) fn holds<L: Label>(
-    rt: &impl Abort,
-    text: &[u8],
-    atoms: usize,
-    cells: usize,
-    connectors: usize,
-    once: usize,
-) -> Result<(), Fail> {
-    let sheet = read::<L>(text)?;
-    assert_eq!(rt; sheet.atoms, atoms);
-    assert_eq!(rt; sheet.cells, cells);
-    assert_eq!(rt; sheet.connectors, connectors);
-    assert_eq!(rt; sheet.once, once);
+/// What a text holds.
+pub(crate) fn holds<L: Label>(rt: &impl Abort, text: &[u8], sheet: Sheet) -> Result<(), Fail> {
+    assert_eq!(rt; read::<L>(text)?, sheet);
     Ok(())
 }
 
 #[test]
 fn clean_sheets(rt: HostRuntime) -> Result<(), Fail> {
-    holds::<WordLabel>(&rt, b"", 0, 0, 0, 0)?;
-    holds::<WordLabel>(&rt, b" \t\r\n", 0, 0, 0, 0)?;
-    holds::<WordLabel>(&rt, b"a", 1, 0, 0, 0)?;
-    holds::<WordLabel>(&rt, b"a(X),b(X)", 2, 0, 0, 0)?;
-    holds::<WordLabel>(&rt, b"a(X),b(Y)", 2, 0, 0, 2)?;
-    holds::<WordLabel>(&rt, b"{}", 0, 1, 0, 0)?;
-    holds::<WordLabel>(&rt, b"{@1},{@15,a,{b}}", 2, 3, 0, 0)?;
-    holds::<WordLabel>(&rt, b"{a,@7}", 1, 1, 0, 0)?;
-    holds::<WordLabel>(&rt, b"{@007}", 0, 1, 0, 0)?;
-    holds::<WordLabel>(&rt, b"X=Y", 0, 0, 1, 2)?;
-    holds::<WordLabel>(&rt, b"X=X", 0, 0, 1, 0)?;
-    holds::<WordLabel>(&rt, b"_=_", 0, 0, 1, 0)?;
-    holds::<WordLabel>(&rt, b"a(_1,_1)", 1, 0, 0, 0)?;
-    holds::<WordLabel>(&rt, b"abcdefgh(ABCDEFGH)", 1, 0, 0, 1)
+    holds::<WordLabel>(&rt, b"", sheet(0, 0, 0, 0))?;
+    holds::<WordLabel>(&rt, b" \t\r\n", sheet(0, 0, 0, 0))?;
+    holds::<WordLabel>(&rt, b"a", sheet(1, 0, 0, 0))?;
+    holds::<WordLabel>(&rt, b"a(X),b(X)", sheet(2, 0, 0, 0))?;
+    holds::<WordLabel>(&rt, b"a(X),b(Y)", sheet(2, 0, 0, 2))?;
+    holds::<WordLabel>(&rt, b"{}", sheet(0, 1, 0, 0))?;
+    holds::<WordLabel>(&rt, b"{@1},{@15,a,{b}}", sheet(2, 3, 0, 0))?;
+    holds::<WordLabel>(&rt, b"{a,@7}", sheet(1, 1, 0, 0))?;
+    holds::<WordLabel>(&rt, b"{@007}", sheet(0, 1, 0, 0))?;
+    holds::<WordLabel>(&rt, b"X=Y", sheet(0, 0, 1, 2))?;
+    holds::<WordLabel>(&rt, b"X=X", sheet(0, 0, 1, 0))?;
+    holds::<WordLabel>(&rt, b"_=_", sheet(0, 0, 1, 0))?;
+    holds::<WordLabel>(&rt, b"a(_1,_1)", sheet(1, 0, 0, 0))?;
+    holds::<WordLabel>(&rt, b"abcdefgh(ABCDEFGH)", sheet(1, 0, 0, 1))
 }
 
 #[test]
 fn ports_and_braces(rt: HostRuntime) -> Result<(), Fail> {
-    holds::<WordLabel>(&rt, b"a(A,B,C,D,E,F,G,H)", 1, 0, 0, 8)?;
+    holds::<WordLabel>(&rt, b"a(A,B,C,D,E,F,G,H)", sheet(1, 0, 0, 8))?;
     refused::<WordLabel>(&rt, b"a(A,B,C,D,E,F,G,H,I)", 7, 18)?;
     refused::<WordLabel>(&rt, b"a(A,B,C,D,E,F,G,H,7)", 5, 18)?;
-    holds::<WordLabel>(&rt, b"{{{{{{{{{{{{{{{{}}}}}}}}}}}}}}}}", 0, 16, 0, 0)?;
+    holds::<WordLabel>(&rt, b"{{{{{{{{{{{{{{{{}}}}}}}}}}}}}}}}", sheet(0, 16, 0, 0))?;
     refused::<WordLabel>(&rt, b"{{{{{{{{{{{{{{{{{}}}}}}}}}}}}}}}}}", 6, 16)?;
     refused::<WordLabel>(&rt, b"{{{{{{{{{{{{{{{{a{", 5, 17)
 }
@@ -150,17 +141,14 @@ fn sets(rt: HostRuntime) -> Result<(), Fail> {
 
 #[test]
 fn numbers(rt: HostRuntime) -> Result<(), Fail> {
-    holds::<WordOrNumber>(&rt, b"7,007,-0,a(X)", 4, 0, 0, 1)?;
+    holds::<WordOrNumber>(&rt, b"7,007,-0,a(X)", sheet(4, 0, 0, 1))?;
     holds::<WordOrNumber>(
         &rt,
         b"2147483647,-2147483648,00000000002147483647",
-        3,
-        0,
-        0,
-        0,
+        sheet(3, 0, 0, 0),
     )?;
     refused::<WordOrNumber>(&rt, b"2147483648", 4, 0)?;
     refused::<WordOrNumber>(&rt, b"a,-2147483649", 4, 2)?;
     refused::<WordOrNumber>(&rt, b"99999999999999999999999999", 4, 0)?;
-    holds::<WordOrNumber>(&rt, b"7(X),{@7,7}", 2, 1, 0, 1)
+    holds::<WordOrNumber>(&rt, b"7(X),{@7,7}", sheet(2, 1, 0, 1))
 }

@@ -1,5 +1,5 @@
 //! Label kinds, and one that takes one token alone.
-use crate::cases::{holds, refused};
+use crate::cases::{holds, refused, sheet};
 use crate::zeros::Zeros;
 use label::form::Form;
 use label::kind::Label;
@@ -11,60 +11,63 @@ use std::test::Fail;
 
 #[test]
 fn no_token(rt: HostRuntime) -> Result<(), Fail> {
-    holds::<Zeros>(&rt, b"{X=Y},Y=X", 0, 1, 2, 0)?;
-    holds::<Zeros>(&rt, b"0", 1, 0, 0, 0)?;
+    holds::<Zeros>(&rt, b"{X=Y},Y=X", sheet(0, 1, 2, 0))?;
+    holds::<Zeros>(&rt, b"0", sheet(1, 0, 0, 0))?;
     refused::<Zeros>(&rt, b"a", 4, 0)?;
     refused::<Zeros>(&rt, b"{7}", 4, 1)
 }
 
-/// A label is written as some bytes of some class.
+/// A label is written as a token of some class.
 fn written<L: Label>(
     rt: &impl Abort,
     form: Form,
     token: &[u8],
-    number: bool,
+    class: Form,
     expected: &[u8],
 ) -> Result<(), Fail> {
     let Some(label) = L::read(form, token) else {
         return Err(Fail::new("no label"));
     };
-    let mut out = [35u8; 11];
-    match label.write(&mut out) {
-        Some((form, n)) => {
-            assert!(rt; matches!(form, Form::Number) == number);
-            assert_eq!(rt; n, expected.len());
-            for i in 0..11usize {
-                let want = if i < expected.len() { expected[i] } else { 35 };
-                assert_eq!(rt; out[i], want);
-            }
-            Ok(())
-        }
-        None => Err(Fail::new("no token")),
-    }
+    let Some(spelled) = label.token() else {
+        return Err(Fail::new("no token"));
+    };
+    assert_eq!(rt; spelled.form, class);
+    assert_eq!(rt; spelled.bytes.as_slice(), expected);
+    Ok(())
 }
 
 #[test]
 fn written_back(rt: HostRuntime) -> Result<(), Fail> {
-    written::<WordLabel>(&rt, Form::Word, b"abcdefgh", false, b"abcdefgh")?;
-    written::<WordOrNumber>(&rt, Form::Word, b"zZ_9", false, b"zZ_9")?;
-    written::<WordOrNumber>(&rt, Form::Number, b"007", true, b"7")?;
-    written::<WordOrNumber>(&rt, Form::Number, b"-0", true, b"0")?;
-    written::<WordOrNumber>(&rt, Form::Number, b"-00012", true, b"-12")?;
-    written::<WordOrNumber>(&rt, Form::Number, b"-2147483648", true, b"-2147483648")?;
-    written::<WordOrNumber>(&rt, Form::Number, b"2147483647", true, b"2147483647")
+    written::<WordLabel>(&rt, Form::Word, b"abcdefgh", Form::Word, b"abcdefgh")?;
+    written::<WordOrNumber>(&rt, Form::Word, b"zZ_9", Form::Word, b"zZ_9")?;
+    written::<WordOrNumber>(&rt, Form::Number, b"007", Form::Number, b"7")?;
+    written::<WordOrNumber>(&rt, Form::Number, b"-0", Form::Number, b"0")?;
+    written::<WordOrNumber>(&rt, Form::Number, b"-00012", Form::Number, b"-12")?;
+    written::<WordOrNumber>(
+        &rt,
+        Form::Number,
+        b"-2147483648",
+        Form::Number,
+        b"-2147483648",
+    )?;
+    written::<WordOrNumber>(
+        &rt,
+        Form::Number,
+        b"2147483647",
+        Form::Number,
+        b"2147483647",
+    )
 }
 
 /// The first label is lower than the second, and not the other way round.
 fn lower<L: Label>(rt: &impl Abort, a: Option<L>, b: Option<L>) -> Result<(), Fail> {
-    match (a, b) {
-        (Some(a), Some(b)) => {
-            assert!(rt; matches!(a.compare(b), Ordering::Less));
-            assert!(rt; matches!(b.compare(a), Ordering::Greater));
-            assert!(rt; matches!(a.compare(a), Ordering::Equal));
-            Ok(())
-        }
-        _ => Err(Fail::new("no label")),
-    }
+    let (Some(a), Some(b)) = (a, b) else {
+        return Err(Fail::new("no label"));
+    };
+    assert_eq!(rt; a.compare(b), Ordering::Less);
+    assert_eq!(rt; b.compare(a), Ordering::Greater);
+    assert_eq!(rt; a.compare(a), Ordering::Equal);
+    Ok(())
 }
 
 #[test]

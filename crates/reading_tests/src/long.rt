@@ -1,35 +1,36 @@
 //! Texts at the limits.
-use crate::cases::{holds, refused};
+use crate::cases::{holds, refused, sheet};
 use label::word::WordLabel;
 use std::alloc::{AllocError, Global};
+use std::iter;
 use std::test::Fail;
 
 /// Some bytes, so many blanks, and some bytes more.
 fn spaced(heap: Global, before: &[u8], blanks: usize, after: &[u8]) -> Result<Vec<u8>, AllocError> {
     let mut text = Vec::new(heap);
     text.extend_from_slice(before)?;
-    for _ in 0..blanks {
-        text.push(32)?;
-    }
+    text.extend(iter::repeat_n(b' ', blanks))?;
     text.extend_from_slice(after)?;
     Ok(text)
 }
 
-/// So many connectors, each of a name of its own, eight bytes with its comma, and some bytes more.
-fn connectors(heap: Global, count: u8, after: &[u8]) -> Result<Vec<u8>, AllocError> {
-    let mut text = Vec::new(heap);
+/// So many connectors, each of a name of its own, eight bytes with its comma, and some text more.
+fn connectors(heap: Global, count: u8, after: &str) -> Result<String, AllocError> {
+    let mut text = String::new(heap);
     for i in 0..count {
-        let tens = b'0' + i / 10 % 10;
-        let ones = b'0' + i % 10;
-        text.extend_from_slice(&[b'N', tens, ones, b'=', b'N', tens, ones, b','])?;
+        write!(text, "N{i:02}=N{i:02},")?;
     }
-    text.extend_from_slice(after)?;
+    text.push_str(after)?;
     Ok(text)
 }
 
 #[test]
 fn lengths(rt: HostRuntime) -> Result<(), Fail> {
-    holds::<WordLabel>(&rt, &spaced(rt.alloc(), b"a", 65534, b"")?, 1, 0, 0, 0)?;
+    holds::<WordLabel>(
+        &rt,
+        &spaced(rt.alloc(), b"a", 65534, b"")?,
+        sheet(1, 0, 0, 0),
+    )?;
     refused::<WordLabel>(&rt, &spaced(rt.alloc(), b"a", 65535, b"")?, 1, 0)?;
     refused::<WordLabel>(&rt, &spaced(rt.alloc(), b";", 65535, b"")?, 1, 0)
 }
@@ -70,9 +71,17 @@ fn last_names(rt: HostRuntime) -> Result<(), Fail> {
 
 #[test]
 fn many_connectors(rt: HostRuntime) -> Result<(), Fail> {
-    holds::<WordLabel>(&rt, &connectors(rt.alloc(), 64, b"a")?, 1, 0, 64, 0)?;
-    refused::<WordLabel>(&rt, &connectors(rt.alloc(), 64, b"X=Y")?, 12, 512)?;
-    refused::<WordLabel>(&rt, &connectors(rt.alloc(), 64, b"X)")?, 12, 512)?;
-    refused::<WordLabel>(&rt, &connectors(rt.alloc(), 64, b"N00=Y")?, 8, 512)?;
-    holds::<WordLabel>(&rt, &connectors(rt.alloc(), 63, b"X=Y")?, 0, 0, 64, 2)
+    holds::<WordLabel>(
+        &rt,
+        connectors(rt.alloc(), 64, "a")?.as_bytes(),
+        sheet(1, 0, 64, 0),
+    )?;
+    refused::<WordLabel>(&rt, connectors(rt.alloc(), 64, "X=Y")?.as_bytes(), 12, 512)?;
+    refused::<WordLabel>(&rt, connectors(rt.alloc(), 64, "X)")?.as_bytes(), 12, 512)?;
+    refused::<WordLabel>(&rt, connectors(rt.alloc(), 64, "N00=Y")?.as_bytes(), 8, 512)?;
+    holds::<WordLabel>(
+        &rt,
+        connectors(rt.alloc(), 63, "X=Y")?.as_bytes(),
+        sheet(0, 0, 64, 2),
+    )
 }

@@ -2,10 +2,12 @@
 //! can reach, and `plain` would be one, since there is no label to call it with. The other functions of a kind stand here by themselves.
 ghost use Rattle.std.specs.Prelude.{◌≡◌};
 ghost use Rattle.std.specs.Option.{option_map};
-ghost use Rattle.label.specs.Kind.{Lawful, Sound, admitted, compared, measured, written};
+ghost use Rattle.label.specs.Kind.{Lawful, Sound, admitted, compared};
+ghost use Rattle.label.specs.Written.{told};
 ghost use Rattle.reading_tests.specs.Mute.{mute_kind, mute_raw};
 
 use label::form::Form;
+use label::spelled::Spelled;
 use std::cmp::Ordering;
 
 /// A value that is no label.
@@ -33,10 +35,9 @@ impl Mute {
         Ordering::Equal
     }
 
-    /// No value has a token, so `out` stays.
-    pub fn write(self, out: &mut [u8; 11]) -> Option<(Form, usize)>
-        ensures token { result ≡ measured (mute_kind.token self) }
-        ensures bytes { out.new ≡ written (mute_kind.token self) out.old }
+    /// No value has a token.
+    pub fn token(self) -> Option<Spelled>
+        ensures { option_map told result ≡ mute_kind.token self }
     {
         None
     }
@@ -50,9 +51,7 @@ impl Mute {
 }
 
 /// A kind that takes no token keeps the laws.
-pub fn mute_stands() -> u8
+pub fn mute_stands()
     ensures lawful { Lawful mute_kind }
     ensures sound { Sound mute_kind mute_raw }
-{
-    0
-}
+{}

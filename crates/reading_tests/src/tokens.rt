@@ -5,45 +5,36 @@ use text::lexer::next_token;
 use text::packed::packed;
 use text::token::{Mark, Token};
 
-/// The place after the first token of a text that begins at the place 100, if that token is a mark.
-fn after_mark(rt: &impl Abort, text: &[u8], turn: bool) -> Result<usize, Fail> {
+/// The place after the first token of a text that begins at the place 100. The token is a mark.
+fn after_mark(rt: &impl Abort, text: &[u8], mark: Mark) -> Result<usize, Fail> {
     assert!(rt; text.len() < 100);
-    match next_token(text, 100)? {
-        Some(found) => match found.token {
-            Token::Mark(Mark::Turn) => {
-                assert!(rt; turn);
-                Ok(found.next)
-            }
-            Token::Mark(Mark::Colon) => {
-                assert!(rt; !turn);
-                Ok(found.next)
-            }
-            _ => Err(Fail::new("another token")),
-        },
-        None => Err(Fail::new("no token")),
-    }
+    let Some(found) = next_token(text, 100)? else {
+        return Err(Fail::new("no token"));
+    };
+    let Token::Mark(first) = found.token else {
+        return Err(Fail::new("another token"));
+    };
+    assert_eq!(rt; first, mark);
+    Ok(found.next)
 }
 
 #[test]
 fn turns_and_colons(rt: HostRuntime) -> Result<(), Fail> {
-    assert_eq!(rt; after_mark(&rt, b":-", true)?, 102);
-    assert_eq!(rt; after_mark(&rt, b":-7", true)?, 102);
-    assert_eq!(rt; after_mark(&rt, b": -7", false)?, 101);
-    assert_eq!(rt; after_mark(&rt, b"::-", false)?, 101);
-    assert_eq!(rt; after_mark(&rt, b"  :", false)?, 103);
+    assert_eq!(rt; after_mark(&rt, b":-", Mark::Turn)?, 102);
+    assert_eq!(rt; after_mark(&rt, b":-7", Mark::Turn)?, 102);
+    assert_eq!(rt; after_mark(&rt, b": -7", Mark::Colon)?, 101);
+    assert_eq!(rt; after_mark(&rt, b"::-", Mark::Colon)?, 101);
+    assert_eq!(rt; after_mark(&rt, b"  :", Mark::Colon)?, 103);
     Ok(())
 }
 
 #[test]
 fn lone_minus(rt: HostRuntime) -> Result<(), Fail> {
-    match next_token(b" - 7", 5) {
-        Ok(_) => Err(Fail::new("a token")),
-        Err(fault) => {
-            assert_eq!(rt; fault.number(), 2);
-            assert_eq!(rt; fault.place, 6);
-            Ok(())
-        }
-    }
+    let Err(fault) = next_token(b" - 7", 5) else {
+        return Err(Fail::new("a token"));
+    };
+    assert_eq!(rt; (fault.number(), fault.place), (2, 6));
+    Ok(())
 }
 
 #[test]

@@ -4,6 +4,7 @@ ghost use Rattle.reading_tests.specs.ZerosLaws.{zeros_lawful, zeros_sound};
 
 use label::form::Form;
 use label::kind::Label;
+use label::spelled::Spelled;
 use std::cmp::Ordering;
 
 /// A value that is a label if it holds 0.
@@ -41,12 +42,12 @@ impl Label for Zeros {
         Ordering::Equal
     }
 
-    fn write(self, out: &mut [u8; 11]) -> Option<(Form, usize)> {
-        if self.held != 0 {
-            return None;
+    fn token(self) -> Option<Spelled> {
+        if self.held == 0 {
+            Spelled::new(Form::Number, b"0")
+        } else {
+            None
         }
-        out[0] = b'0';
-        Some((Form::Number, 1))
     }
 
     fn admit(self) -> Option<Zero> {

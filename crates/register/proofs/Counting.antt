@@ -1,69 +1,49 @@
 -- Atoms counted, and rows that are right for them.
-use Rattle.std.proofs.Common.{◌≡◌, ℕ, suc, Bool, true, false, cond, not, ◌&&◌, eqb, ltb, List, [], ◌∷◌, ◌++◌, sym, refl, ap, ◌∙◌, ⊎_elim, append-nil, arith}
-use Rattle.std.proofs.lemmas.Bool.{and_from, and_parts, both_ways, cases_Bool, cond-false, le-ltb, not-true, or_parts}
+use Rattle.std.proofs.Common.{◌≡◌, Bool, true, false, not, ◌&&◌, eqb, ltb, List, [], ◌∷◌, ◌++◌, sym, refl, ap, ◌∙◌, ⊎_elim}
+use Rattle.std.proofs.lemmas.Bool.{and_from, and_parts, both_ways, cases_Bool, cond-false, not-true, or_parts}
 use Rattle.label.specs.Kind.{Kind, Lawful}
 use Rattle.plan.specs.declared.tables.Census.{Census}
 use Rattle.plan.specs.Model.{Node}
-use Rattle.plan.specs.Sound.{alike, ascending, atoms_of, each, first_above, registered, row_right}
+use Rattle.std.specs.List.{list_all}
+use Rattle.plan.specs.Sound.{alike, atoms_of, registered, row_right}
 use Rattle.plan.proofs.Each.{each_append}
-use Rattle.plan.proofs.Placing.{alike_turn, place_none, registered_place}
+use Rattle.plan.proofs.Placing.{alike_turn}
 
-pub each_from : {A : Type 0} (p q : A → Bool) (s : List A) → ((x : A) → p x ≡ true → q x ≡ true) → each p s ≡ true → each q s ≡ true
-unfolding each
+pub each_from : {A : Type 0} (p q : A → Bool) (s : List A) → ((x : A) → p x ≡ true → q x ≡ true) → list_all p s ≡ true → list_all q s ≡ true
 each_from p q [] f h = refl
 each_from p q (x ∷ s) f h =
-    let both = and_parts (p x) (each p s) h in and_from (q x) (each q s) (f x both.0) (each_from p q s f both.1)
+    let both = and_parts (p x) (list_all p s) h in and_from (q x) (list_all q s) (f x both.0) (each_from p q s f both.1)
 
-pub each_from_two : {A : Type 0} (p q r : A → Bool) (s : List A) → ((x : A) → p x ≡ true → q x ≡ true → r x ≡ true) → each p s ≡ true → each q s ≡ true → each r s ≡ true
-unfolding each
+pub each_from_two : {A : Type 0} (p q r : A → Bool) (s : List A) → ((x : A) → p x ≡ true → q x ≡ true → r x ≡ true) → list_all p s ≡ true → list_all q s ≡ true → list_all r s ≡ true
 each_from_two p q r [] f h g = refl
 each_from_two p q r (x ∷ s) f h g =
-    let ps = and_parts (p x) (each p s) h in
-    let qs = and_parts (q x) (each q s) g in
-    and_from (r x) (each r s) (f x ps.0 qs.0) (each_from_two p q r s f ps.1 qs.1)
+    let ps = and_parts (p x) (list_all p s) h in
+    let qs = and_parts (q x) (list_all q s) g in
+    and_from (r x) (list_all r s) (f x ps.0 qs.0) (each_from_two p q r s f ps.1 qs.1)
 
-pub each_without : {A : Type 0} (p : A → Bool) (xs ys : List A) (a : A) → each p (xs ++ (a ∷ ys)) ≡ true → (p a ≡ true) × (each p (xs ++ ys) ≡ true)
-unfolding each
+pub each_without : {A : Type 0} (p : A → Bool) (xs ys : List A) (a : A) → list_all p (xs ++ (a ∷ ys)) ≡ true → (p a ≡ true) × (list_all p (xs ++ ys) ≡ true)
 each_without p xs ys a h =
-    let both = and_parts (each p xs) (p a && each p ys) (sym (each_append p xs (a ∷ ys)) ∙ h) in
-    let last = and_parts (p a) (each p ys) both.1 in
-    (last.0, each_append p xs ys ∙ and_from (each p xs) (each p ys) both.0 last.1)
+    let both = and_parts (list_all p xs) (p a && list_all p ys) (sym (each_append p xs (a ∷ ys)) ∙ h) in
+    let last = and_parts (p a) (list_all p ys) both.1 in
+    (last.0, each_append p xs ys ∙ and_from (list_all p xs) (list_all p ys) both.0 last.1)
 
-pub each_push : {A : Type 0} (p : A → Bool) (xs : List A) (a : A) → each p xs ≡ true → p a ≡ true → each p (xs ++ (a ∷ [])) ≡ true
-unfolding each
-each_push p xs a h e = each_append p xs (a ∷ []) ∙ and_from (each p xs) (p a && true) h (and_from (p a) true e refl)
-
-cond_turn : (v w : Bool) (n : ℕ) → cond w (suc (cond v (suc n) n)) (cond v (suc n) n) ≡ cond v (suc (cond w (suc n) n)) (cond w (suc n) n)
-cond_turn true true n = refl
-cond_turn true false n = refl
-cond_turn false true n = refl
-cond_turn false false n = refl
+pub each_push : {A : Type 0} (p : A → Bool) (xs : List A) (a : A) → list_all p xs ≡ true → p a ≡ true → list_all p (xs ++ (a ∷ [])) ≡ true
+each_push p xs a h e = each_append p xs (a ∷ []) ∙ and_from (list_all p xs) (p a && true) h (and_from (p a) true e refl)
 
 module _ {L : Type 0} (k : Kind L) where
-  pub atoms_between : (x : L) (xs ys : List (Node L)) (a : Node L) → atoms_of k x (xs ++ (a ∷ ys)) ≡ cond (alike k x a.label) (suc (atoms_of k x (xs ++ ys))) (atoms_of k x (xs ++ ys))
-  unfolding atoms_of
-  atoms_between x [] ys a = refl
-  atoms_between x (b ∷ xs) ys a =
-      ap (λ n. cond (alike k x b.label) (suc n) n) (atoms_between x xs ys a)
-      ∙ cond_turn (alike k x a.label) (alike k x b.label) (atoms_of k x (xs ++ ys))
-
-  pub atoms_push : (x : L) (xs : List (Node L)) (a : Node L) → atoms_of k x (xs ++ (a ∷ [])) ≡ cond (alike k x a.label) (suc (atoms_of k x xs)) (atoms_of k x xs)
-  atoms_push x xs a =
-      atoms_between x xs [] a ∙ ap (λ s. cond (alike k x a.label) (suc (atoms_of k x s)) (atoms_of k x s)) (append-nil xs)
-
   -- rows that have another label than l are as right for atoms that differ in l only
-  pub right_still : (l : L) (nodes others : List (Node L)) (rows : List (Census L)) → ((x : L) → alike k x l ≡ false → atoms_of k x others ≡ atoms_of k x nodes) → registered k l rows ≡ false → each (row_right k nodes) rows ≡ true → each (row_right k others) rows ≡ true
-  unfolding registered each
+  pub right_still : (l : L) (nodes others : List (Node L)) (rows : List (Census L)) → ((x : L) → alike k x l ≡ false → atoms_of k x others ≡ atoms_of k x nodes) → registered k l rows ≡ false → list_all (row_right k nodes) rows ≡ true → list_all (row_right k others) rows ≡ true
+  unfolding registered
   right_still l nodes others [] f no_row h = refl
   right_still l nodes others (c ∷ cs) f no_row h =
       let apart = or_parts (alike k l c.label) (registered k l cs) no_row in
-      let both = and_parts (row_right k nodes c) (each (row_right k nodes) cs) h in
+      let both = and_parts (row_right k nodes c) (list_all (row_right k nodes) cs) h in
       let n = f c.label (alike_turn k c.label l ∙ apart.0) in
-      and_from (row_right k others c) (each (row_right k others) cs)
+      and_from (row_right k others c) (list_all (row_right k others) cs)
       (ap (λ n. k.mine c.label && (ltb 0 c.atoms && eqb c.atoms n)) n ∙ both.0)
       (right_still l nodes others cs f apart.1 both.1)
 
-  pub right_mine : (nodes : List (Node L)) (rows : List (Census L)) → each (row_right k nodes) rows ≡ true → each (λ c. k.mine c.label) rows ≡ true
+  pub right_mine : (nodes : List (Node L)) (rows : List (Census L)) → list_all (row_right k nodes) rows ≡ true → list_all (λ c. k.mine c.label) rows ≡ true
   right_mine nodes rows =
       each_from (row_right k nodes) (λ c. k.mine c.label) rows (λ c h. (and_parts (k.mine c.label) _ h).0)
 
@@ -76,18 +56,13 @@ module _ {L : Type 0} (k : Kind L) where
     pub alike_itself : (a : L) → k.mine a ≡ true → alike k a a ≡ true
     alike_itself a m = ap (λ v. not v && not v) (law.not_itself a m)
 
-    -- a label lower than the first row's is not registered
-    pub unregistered : (l : L) (rows : List (Census L)) → k.mine l ≡ true → each (λ c. k.mine c.label) rows ≡ true → ascending k rows ≡ true → first_above k l rows ≡ true → registered k l rows ≡ false
-    unregistered l rows m ms h f =
-        let e = place_none k law l rows m ms h f in registered_place k l rows ∙ le-ltb _ _ (omega arith)
-
     -- no atom has a label that is not registered
-    pub none_of : (l : L) (rows : List (Census L)) (nodes : List (Node L)) → k.mine l ≡ true → each (λ a. k.mine a.label) nodes ≡ true → each (λ a. registered k a.label rows) nodes ≡ true → registered k l rows ≡ false → atoms_of k l nodes ≡ 0
-    unfolding each atoms_of
+    pub none_of : (l : L) (rows : List (Census L)) (nodes : List (Node L)) → k.mine l ≡ true → list_all (λ a. k.mine a.label) nodes ≡ true → list_all (λ a. registered k a.label rows) nodes ≡ true → registered k l rows ≡ false → atoms_of k l nodes ≡ 0
+    unfolding atoms_of
     none_of l rows [] m ms h f = refl
     none_of l rows (a ∷ nodes) m ms h f =
-        let mine = and_parts (k.mine a.label) (each (λ a. k.mine a.label) nodes) ms in
-        let here = and_parts (registered k a.label rows) (each (λ a. registered k a.label rows) nodes) h in
+        let mine = and_parts (k.mine a.label) (list_all (λ a. k.mine a.label) nodes) ms in
+        let here = and_parts (registered k a.label rows) (list_all (λ a. registered k a.label rows) nodes) h in
         ⊎_elim
         (λ (t : alike k l a.label ≡ true).
         absurd (both_ways (registered k l rows) f (ap (λ x. registered k x rows) (alike_same l a.label m mine.0 t) ∙ here.0)))

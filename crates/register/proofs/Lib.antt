@@ -1,5 +1,5 @@
 pub mod Adding
 pub mod Counting
+pub mod Inserting
 pub mod Seeking
-pub mod Shifting
 pub mod Taking

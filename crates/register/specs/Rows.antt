@@ -1,7 +1,9 @@
 -- The register with one atom more of a label, and with one less.
-use Rattle.std.specs.Prelude.{ℕ, suc, ◌+◌, ◌-◌, cond, List, [], ◌∷◌, nat_le}
+use Rattle.std.specs.Prelude.{ℕ, ◌+◌, ◌-◌, cond, List, [], ◌∷◌, Ok, Err, Result, nat_le}
+use Rattle.std.specs.List.{prefix_len}
 use Rattle.label.specs.Kind.{Kind}
 use Rattle.plan.specs.declared.tables.Census.{Census}
+use Rattle.plan.specs.Sound.{registered}
 
 -- one atom more: its label's row counts it, or a new row goes before the first higher label
 unfoldable pub added : {L : Type 0} → Kind L → L → List (Census L) → List (Census L)
@@ -20,6 +22,9 @@ taken k l (c ∷ cs) =
     (cond (nat_le c.atoms 1) cs (record { label = c.label; atoms = c.atoms - 1 } ∷ cs)))
 
 -- how many rows at the front have a lower label
-unfoldable pub below : {L : Type 0} → Kind L → L → List (Census L) → ℕ
-below k l [] = 0
-below k l (c ∷ cs) = cond (k.lower c.label l) (suc (below k l cs)) 0
+abbrev pub below : {L : Type 0} → Kind L → L → List (Census L) → ℕ
+below k l rows = prefix_len (λ c. k.lower c.label l) rows
+
+-- the row of a label, or else the place at which a row of it would go
+abbrev pub sought : {L : Type 0} → Kind L → L → List (Census L) → Result ℕ ℕ
+sought k l rows = cond (registered k l rows) (Ok (below k l rows)) (Err (below k l rows))

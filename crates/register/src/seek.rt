@@ -1,38 +1,18 @@
 //! The place of a label in a register.
-ghost use Rattle.std.specs.Prelude.{◌≡◌};
-ghost use Rattle.plan.specs.Sound.{alike};
-ghost use Rattle.register.specs.Rows.{below};
+ghost use Rattle.std.specs.Prelude.{◌≡◌, true, length};
+ghost use Rattle.std.specs.List.Sorted.{IsSearchInRange};
+ghost use Rattle.register.specs.Rows.{sought};
 
 use label::kind::Label;
-use plan::tables::Census;
-use std::cmp::Ordering;
+use plan::register::Register;
 
-/// Whether a label is lower than another.
-fn is_lower<L: Label>(label: L, other: L) -> bool
-    ensures { result ≡ L.Label.kind.lower label other }
+/// The row of a label, or else the place at which a row of it would go.
+pub(crate) fn seek<L: Label>(label: L, register: &Register<'_, L>) -> Result<usize, usize>
+    requires { L.Label.kind.mine label ≡ true }
+    ensures within { IsSearchInRange result (length register.now.rows.now) }
+    ensures is { result ≡ sought L.Label.kind label register.now.rows.now }
 {
-    matches!(label.compare(other), Ordering::Less)
-}
-
-/// Whether two labels are the same.
-pub(crate) fn is_same<L: Label>(label: L, other: L) -> bool
-    ensures { result ≡ alike L.Label.kind label other }
-{
-    matches!(label.compare(other), Ordering::Equal)
-}
-
-/// How many rows at the front have a lower label.
-pub(crate) fn rows_below<L: Label>(label: L, rows: &[Census<L>]) -> usize
-    ensures { result ≡ below L.Label.kind label rows.now }
-{
-    let mut n = 0;
-    let mut rest = rows;
-    while let [row, after @ ..] = rest {
-        if !is_lower(row.label, label) {
-            return n;
-        }
-        n += 1;
-        rest = after;
-    }
-    n
+    register
+        .rows
+        .binary_search_by(|row| row.label.compare(label))
 }

@@ -1,4 +1,7 @@
 -- A shown plan that is hung again shows the same.
+use Rattle.std.proofs.lemmas.List.Elements.{filter-append}
+use Rattle.showing.proofs.Lists.{kept_map, map_flat}
+use Rattle.std.proofs.lemmas.Simd.{map-map}
 use Rattle.std.proofs.Common.{◌≡◌, ℕ, ◌+◌, ◌<◌, ◌≤◌, Bool, true, not, eqb, List, [], ◌∷◌, ◌++◌, map, length, get_or, is_some, Some, None, filter, Option, sym, refl, ap, ◌∙◌, subst, ap₂, ⊎_elim, append-nil, arith, length-append}
 use lib.ListN.{length-map}
 use Rattle.std.specs.List.{AllByRecursion as All}
@@ -13,19 +16,21 @@ use Rattle.plan.specs.declared.tables.Cell.{Cell}
 use Rattle.plan.specs.declared.tables.FreeLink.{FreeLink}
 use Rattle.plan.specs.declared.tables.Plan.{Plan}
 use Rattle.plan.specs.Model.{Model, Node, model_of, struck}
-use Rattle.plan.specs.Sound.{Sound, count, each, is_root, link_limit, no_cell, parentless, rows}
+use Rattle.std.specs.List.{list_all}
+use Rattle.plan.specs.Sound.{Sound, count, is_root, link_limit, no_cell, parentless, rows}
 use Rattle.placing.specs.Links.{link_at, opened}
 use Rattle.placing.specs.NamesOf.{packed_names, says}
-use Rattle.placing.specs.Orderly as orderly
 use Rattle.placing.specs.Placing.{Placing, become, begun, links_in, place_all, refreed, relinked}
 use Rattle.placing.proofs.KeepAbsorb.{become_rows, length_rows}
 use Rattle.placing.proofs.KeepEach.{distinct_once}
 use Rattle.placing.proofs.KeepTally.{kept_least, kept_passes}
 use Rattle.placing.proofs.NamesOf.{names_right}
-use Rattle.showing.specs.Walk.{flat, whole_walk, walk, atoms_in}
+use Rattle.std.specs.List.{flat_map}
+use Rattle.showing.specs.Walk.{whole_walk, walk, atoms_in}
 use Rattle.showing.specs.Shown.{open_name, or_number, place, firsts, numbered, shown_name, step_links, step_events, ties, plan_events, shown}
 use Rattle.showing.specs.Text.{text_of}
-use Rattle.showing.specs.Reading.{name_standings}
+use Rattle.grammar.specs.Events.{name_standings}
+use Rattle.showing.specs.Reading.{names_in}
 use Rattle.showing.specs.declared.last.Last.TheVariants as last_word
 use Rattle.showing.proofs.Totals.{all_kept, all_weaker, all_of, count_append, count_kept}
 use Rattle.showing.proofs.Meeting.{Facts, facts, met_links, met_length}
@@ -33,12 +38,11 @@ use Rattle.showing.proofs.Freed.{names, open_found, standings_append, tied, tied
 use Rattle.showing.proofs.Named.{firsts_has, firsts_length, place_same}
 use Rattle.showing.proofs.Twice.{apart, shown_packed, steps_names}
 use Rattle.roundtrip.specs.Roundtrip.{rehung}
-use Rattle.roundtrip.proofs.Sizes.{stream_standings}
 use Rattle.roundtrip.proofs.Once.{at_link, closed_twice, open_once, shown_open}
 use Rattle.roundtrip.proofs.Tallies.{all_standing, not_longer}
 use Rattle.roundtrip.proofs.Taken.{back, clean}
 use Rattle.roundtrip.proofs.Order.{names_ordered}
-use Rattle.roundtrip.proofs.Preorder.{count_none, kept_alike, kept_append, kept_map, place_in}
+use Rattle.roundtrip.proofs.Preorder.{count_none, kept_alike, place_in}
 use Rattle.roundtrip.proofs.Whole.{order, order_covers, order_enough, order_first, order_inner, order_once}
 use Rattle.roundtrip.proofs.Placed as placed
 use Rattle.roundtrip.proofs.Walked as walked
@@ -84,13 +88,13 @@ module _ {L : Type 0} (k : Kind L) (law : Lawful k) (p : Plan L) (sound : Sound 
   s1 = map sp met
 
   abbrev s2 : List ℕ
-  s2 = name_standings (ties {L = L} free)
+  s2 = names_in (ties {L = L} free)
 
-  all_standings : name_standings (plan_events m) ≡ s1 ++ s2
-  all_standings = standings_append (flat (step_events (shown_name m)) (whole_walk m)) (ties free) ∙ ap (λ t. t ++ s2) (steps_names (shown_name m) (whole_walk m))
+  all_standings : names_in (plan_events m) ≡ s1 ++ s2
+  all_standings = standings_append (flat_map (step_events (shown_name m)) (whole_walk m)) (ties free) ∙ ap (λ t. t ++ s2) (steps_names (shown_name m) (whole_walk m))
 
-  text_standings : orderly.name_standings (hang_events k 0 text) ≡ s1 ++ s2
-  text_standings = ap orderly.name_standings (back k law p sound) ∙ (stream_standings (plan_events m) ∙ all_standings)
+  text_standings : name_standings (hang_events k 0 text) ≡ s1 ++ s2
+  text_standings = ap name_standings (back k law p sound) ∙ all_standings
 
   -- ** the names of the text
 
@@ -165,7 +169,7 @@ module _ {L : Type 0} (k : Kind L) (law : Lawful k) (p : Plan L) (sound : Sound 
   new_atoms = placed.new_atoms k link (shown_name m) m cells_order once
 
   abbrev shown_steps : List (Event L)
-  shown_steps = flat (step_events (shown_name m)) (whole_walk m)
+  shown_steps = flat_map (step_events (shown_name m)) (whole_walk m)
 
   start : placed.At k link (begun struck) [] (map new_cell ([] ++ (0 ∷ []))) (place 0 cells_order) (rows 0 link_limit)
   start =
@@ -179,7 +183,7 @@ module _ {L : Type 0} (k : Kind L) (law : Lawful k) (p : Plan L) (sound : Sound 
   abbrev after_walk : Placing L
   after_walk = placed.run k link (begun struck) shown_steps
 
-  at_walk : placed.At k link after_walk (flat new_atoms cells_order) (map new_cell cells_order) (place 0 cells_order) (rows 0 link_limit)
+  at_walk : placed.At k link after_walk (flat_map new_atoms cells_order) (map new_cell cells_order) (place 0 cells_order) (rows 0 link_limit)
   at_walk =
       placed.placed k link (shown_name m) m cells_order once 17 0 (order_enough m.cells fa.top fa.some fa.lead) [] [] (begun struck) [] (rows 0 link_limit)
       (sym (append-nil cells_order)) start
@@ -216,13 +220,13 @@ module _ {L : Type 0} (k : Kind L) (law : Lawful k) (p : Plan L) (sound : Sound 
 
   relink_moved : (i : ℕ) (nodes : List (Node L)) → map (relinked became) (map (placed.moved k link (shown_name m) i) nodes) ≡ map (walked.again m again cells_order h i) nodes
   relink_moved i [] = refl
-  relink_moved i (a ∷ nodes) = ap₂ (λ ls t. record { label = a.label; cell = i; links = ls } ∷ t) (walked.map_twice (become became) (λ x. link (shown_name m x)) a.links) (relink_moved i nodes)
+  relink_moved i (a ∷ nodes) = ap₂ (λ ls t. record { label = a.label; cell = i; links = ls } ∷ t) (map-map (become became) (λ x. link (shown_name m x)) a.links) (relink_moved i nodes)
 
-  again_atoms : again.atoms ≡ flat (walked.new_atoms m again cells_order h) cells_order
+  again_atoms : again.atoms ≡ flat_map (walked.new_atoms m again cells_order h) cells_order
   again_atoms =
       ap (λ (z : Placing L). map (relinked became) z.atoms) last_is
       ∙ (ap (map (relinked became)) (tied_is.atoms ∙ at_walk.atoms)
-      ∙ (walked.map_flat (relinked became) new_atoms cells_order
+      ∙ (map_flat (relinked became) new_atoms cells_order
       ∙ walked.flat_alike (λ r. map (relinked became) (new_atoms r)) (walked.new_atoms m again cells_order h) cells_order
       (all_of (λ r. map (relinked became) (new_atoms r) ≡ walked.new_atoms m again cells_order h r) cells_order (λ r. relink_moved (place r cells_order) (atoms_in r m.atoms)))))
 
@@ -253,8 +257,8 @@ module _ {L : Type 0} (k : Kind L) (law : Lawful k) (p : Plan L) (sound : Sound 
   again_free =
       let mk : ℕ → FreeLink = λ q. record { name = record { packed = q }; link = place q ps } in
       ap (λ ls. map (refreed became) (opened [] ns ls)) (links_are L ns ns_room ps_once)
-      ∙ (ap (map (refreed became)) (opened_are (λ q. place q ps) (s1 ++ s2) ns (subst (λ xs. each (says xs) ns ≡ true) text_standings (names_right k text (clean k law p sound)).rows_right))
-      ∙ (walked.map_twice (refreed became) mk opened_names
+      ∙ (ap (map (refreed became)) (opened_are (λ q. place q ps) (s1 ++ s2) ns (subst (λ xs. list_all (says xs) ns ≡ true) text_standings (names_right k text (clean k law p sound)).rows_right))
+      ∙ (map-map (refreed became) mk opened_names
       ∙ map_alike (λ q. refreed became (mk q)) (freed L ps free) opened_names
       (all_standing (λ q. refreed became (mk q) ≡ freed L ps free q) opened_names (λ q l.
       let n = kept_least lone q ps in
@@ -311,11 +315,11 @@ module _ {L : Type 0} (k : Kind L) (law : Lawful k) (p : Plan L) (sound : Sound 
           open_present L ps free (sp x) opened_names inside (stays L (sp x) free (sp_tied x l)) (λ q g. stays_back L (sp x) q free (sp_tied x l) g) (omega arith)
           ∙ (ap (λ q. Some (record { packed = q })) i ∙ sym e)
 
-  links_again : flat step_links (whole_walk again) ≡ map h met
+  links_again : flat_map step_links (whole_walk again) ≡ map h met
   links_again =
-      sym (walked.map_self (flat step_links (whole_walk again)))
+      sym (walked.map_self (flat_map step_links (whole_walk again)))
       ∙ (sym (walked.bare_links (λ x. x) (whole_walk again))
-      ∙ (ap (flat step_links) walk_again ∙ walked.bare_links h (whole_walk m)))
+      ∙ (ap (flat_map step_links) walk_again ∙ walked.bare_links h (whole_walk m)))
 
   all_met : All Met met
   all_met = all_standing Met met (λ x l. l)
@@ -343,10 +347,10 @@ module _ {L : Type 0} (k : Kind L) (law : Lawful k) (p : Plan L) (sound : Sound 
   name_again : (x : ℕ) → Met x → shown_name again (h x) ≡ shown_name m x
   name_again x l = ap₂ or_number (open_again x l) (ap (place (h x)) numbered_again ∙ place_map Met h h_apart x (numbered m) l numbered_met)
 
-  steps_again : flat (step_events (shown_name again)) (whole_walk again) ≡ shown_steps
+  steps_again : flat_map (step_events (shown_name again)) (whole_walk again) ≡ shown_steps
   steps_again =
       sym (walked.bare_shown (shown_name again) (λ x. x) (whole_walk again))
-      ∙ (ap (flat (step_events (shown_name again))) walk_again
+      ∙ (ap (flat_map (step_events (shown_name again))) walk_again
       ∙ (walked.bare_shown (shown_name again) h (whole_walk m)
       ∙ steps_alike (λ x. shown_name again (h x)) (shown_name m) (whole_walk m) (all_standing (λ x. shown_name again (h x) ≡ shown_name m x) met name_again)))
 
@@ -358,7 +362,7 @@ module _ {L : Type 0} (k : Kind L) (law : Lawful k) (p : Plan L) (sound : Sound 
   names_parts : opened_names ≡ alone ++ s2
   names_parts =
       ap (filter lone) ps_parts
-      ∙ (kept_append lone f1 s2
+      ∙ (filter-append lone f1 s2
       ∙ ap (λ t. alone ++ t) (kept_every lone s2 (all_standing (λ c. lone c ≡ true) s2 (λ c l.
       let z = (tied_open c l).0 in
       let o = tied_one c in

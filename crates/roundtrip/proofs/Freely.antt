@@ -8,7 +8,8 @@ use Rattle.grammar.specs.declared.event.Event.TheVariants as events
 use Rattle.plan.specs.declared.tables.FreeLink.{FreeLink}
 use Rattle.plan.specs.Sound.{count}
 use Rattle.showing.specs.Shown.{open_name, place, joins, firsts, tie, ties}
-use Rattle.showing.specs.Reading.{name_standings}
+use Rattle.grammar.specs.Events.{name_standings}
+use Rattle.showing.specs.Reading.{names_in, stream}
 use Rattle.showing.proofs.Totals.{count_append}
 use Rattle.showing.proofs.Freed.{open_here, open_later, count_here, count_later, tied, tied_none, tied_some}
 use Rattle.showing.proofs.Named.{place_same}
@@ -113,14 +114,14 @@ module _ (L : Type 0) (ps : List ℕ) (gs : List FreeLink) where
       ∙ ties_skip us ws h.1 (λ c. let m = count_more c u (us ++ ws) in let w = d c in omega arith)
 
   abbrev standing : List FreeLink → List ℕ
-  standing fs = name_standings (ties {L = L} fs)
+  standing fs = names_in (ties {L = L} fs)
 
   standing_none : (f : FreeLink) (fs : List FreeLink) → open_name f.link fs ≡ None → standing (f ∷ fs) ≡ standing fs
-  standing_none f fs e = ap name_standings (tie_none f fs e)
+  standing_none f fs e = ap names_in (tie_none f fs e)
 
   standing_some : (f : FreeLink) (fs : List FreeLink) (b : Name) → open_name f.link fs ≡ Some b → standing (f ∷ fs) ≡ f.name.packed ∷ (b.packed ∷ standing fs)
-  unfolding name_standings
-  standing_some f fs b e = ap name_standings (tie_some f fs b e)
+  unfolding stream name_standings
+  standing_some f fs b e = ap names_in (tie_some f fs b e)
 
   abbrev Same : List FreeLink → Type 0
   Same fs = ((c : ℕ) → tied L c fs ≤ 1) → ((c : ℕ) → 0 < tied L c fs → becomes gs c ≡ becomes fs c) → ((c : ℕ) → 0 < tied L c fs → 0 < count c ps) → ties {L = L} (map freed (standing fs)) ≡ ties fs
@@ -161,6 +162,6 @@ module _ (L : Type 0) (ps : List ℕ) (gs : List FreeLink) where
       ∙ sym (tie_some f fs b e)))
 
   pub ties_same : (fs : List FreeLink) → Same fs
-  unfolding ties name_standings
+  unfolding ties stream name_standings
   ties_same [] d g w = refl
   ties_same (f ∷ fs) d g w = ties_next f fs (open_name f.link fs) refl (ties_same fs) d g w

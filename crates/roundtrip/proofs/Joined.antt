@@ -11,7 +11,7 @@ use Rattle.plan.specs.declared.tables.FreeLink.{FreeLink}
 use Rattle.plan.specs.Sound.{count}
 use Rattle.placing.specs.Placing.{Placing, become, joined, place_all, place_one, put}
 use Rattle.showing.specs.Shown.{open_name, place, tie, ties}
-use Rattle.showing.specs.Reading.{stream, name_standings}
+use Rattle.showing.specs.Reading.{stream, names_in}
 use Rattle.showing.proofs.Freed.{count_here, count_later, tied, tied_none, tied_some}
 use Rattle.showing.proofs.Named.{place_same}
 use Rattle.roundtrip.proofs.Preorder.{place_in}
@@ -47,7 +47,7 @@ module _ (L : Type 0) where
       by : (o : Option Name) → open_name f.link fs ≡ o → (tied L c fs ≡ 0 → becomes fs c ≡ c) → becomes fs (over f.name.packed (open_name f.link fs) c) ≡ c
       by None e ih = let t = tied_none L c f fs e in ap (λ o. becomes fs (over f.name.packed o c)) e ∙ ih (omega arith)
       by (Some b) e ih =
-          let rest = name_standings (ties {L = L} fs) in
+          let rest = names_in (ties {L = L} fs) in
           let t = tied_some L c f fs b e in
           let other : (c ≡ f.name.packed → ⊥) = λ i. (let u = count_here c f.name.packed (b.packed ∷ rest) i in omega arith) in
           let u = count_later c f.name.packed (b.packed ∷ rest) other in
@@ -63,7 +63,7 @@ module _ (L : Type 0) where
       by : (o : Option Name) → open_name f.link fs ≡ o → ((q : ℕ) → tied L c fs ≡ 0 → becomes fs q ≡ c → q ≡ c) → p ≡ c
       by None e ih = let t = tied_none L c f fs e in ih p (omega arith) (sym (ap (λ o. becomes fs (over f.name.packed o p)) e) ∙ g)
       by (Some b) e ih =
-          let rest = name_standings (ties {L = L} fs) in
+          let rest = names_in (ties {L = L} fs) in
           let t = tied_some L c f fs b e in
           let other : (c ≡ f.name.packed → ⊥) = λ i. (let u = count_here c f.name.packed (b.packed ∷ rest) i in omega arith) in
           let u = count_later c f.name.packed (b.packed ∷ rest) other in
@@ -80,7 +80,7 @@ module _ (L : Type 0) where
   unfolding becomes
   pair f fs b d e =
       let a = f.name.packed in
-      let rest = name_standings (ties {L = L} fs) in
+      let rest = names_in (ties {L = L} fs) in
       let t = tied_some L b.packed f fs b e in
       let o = d b.packed in
       let h = count_here b.packed b.packed rest refl in
@@ -99,7 +99,7 @@ module _ (L : Type 0) where
       by : (o : Option Name) → open_name f.link fs ≡ o → becomes fs (over f.name.packed (open_name f.link fs) c) ≡ becomes fs c
       by None e = ap (λ o. becomes fs (over f.name.packed o c)) e
       by (Some b) e =
-          let rest = name_standings (ties {L = L} fs) in
+          let rest = names_in (ties {L = L} fs) in
           let t = tied_some L c f fs b e in
           let o = d c in
           let v : count c rest ≤ count c (b.packed ∷ rest) = count_more c b.packed rest in
@@ -112,7 +112,7 @@ module _ (L : Type 0) where
       by : (o : Option Name) → open_name f.link fs ≡ o → tied L c fs ≤ 1
       by None e = let t = tied_none L c f fs e in let o = d c in omega arith
       by (Some b) e =
-          let rest = name_standings (ties {L = L} fs) in
+          let rest = names_in (ties {L = L} fs) in
           let t = tied_some L c f fs b e in
           let v : count c rest ≤ count c (b.packed ∷ rest) = count_more c b.packed rest in
           let u : count c (b.packed ∷ rest) ≤ count c (f.name.packed ∷ (b.packed ∷ rest)) = count_more c f.name.packed (b.packed ∷ rest) in
@@ -167,7 +167,7 @@ module _ {L : Type 0} (k : Kind L) (link : Name → ℕ) (ps : List ℕ) (limit 
       ih p t (λ c. let n = tied_none L c f fs e in let a = d c in omega arith) (λ c l. w c (let n = tied_none L c f fs e in omega arith)) (λ c l. g c (let n = tied_none L c f fs e in omega arith)) h
   tied_next f fs (Some b) p t ih e d w g h =
       let a = f.name.packed in
-      let rest = name_standings (ties {L = L} fs) in
+      let rest = names_in (ties {L = L} fs) in
       let ta = tied_some L a f fs b e in
       let tb = tied_some L b.packed f fs b e in
       let ca = count_here a a (b.packed ∷ rest) refl in

@@ -9,7 +9,8 @@ use Rattle.grammar.specs.declared.stand.Standing.{Standing}
 use Rattle.grammar.specs.Names.{position}
 use Rattle.plan.specs.declared.tables.FreeLink.{FreeLink}
 use Rattle.plan.specs.Model.{struck}
-use Rattle.plan.specs.Sound.{count, each, ends, link_limit, port_links, rows}
+use Rattle.std.specs.List.{list_all}
+use Rattle.plan.specs.Sound.{count, ends, link_limit, port_links, rows}
 use Rattle.placing.specs.Links.{closed, linked, link_at, links_from, open_link, opened, opens, unused}
 use Rattle.placing.specs.NamesOf.{packed_names, says}
 use Rattle.placing.specs.Placing.{links_in}
@@ -63,11 +64,11 @@ opens_once s c h =
     (λ (t : s.twice ≡ false). let i : c ≡ 1 = e ∙ ap (λ v. cond v 2 1) t in ap (λ v. not v && true) t ∙ sym (eq-eqb c 1 i))
     (cases_Bool s.twice)
 
-pub opened_are : (g : ℕ → ℕ) (xs : List ℕ) (ns : List Standing) → each (says xs) ns ≡ true → opened [] ns (map g (packed_names ns)) ≡ map (λ p. record { name = record { packed = p }; link = g p }) (filter (λ p. eqb (count p xs) 1) (packed_names ns))
-unfolding opened each
+pub opened_are : (g : ℕ → ℕ) (xs : List ℕ) (ns : List Standing) → list_all (says xs) ns ≡ true → opened [] ns (map g (packed_names ns)) ≡ map (λ p. record { name = record { packed = p }; link = g p }) (filter (λ p. eqb (count p xs) 1) (packed_names ns))
+unfolding opened
 opened_are g xs [] h = refl
 opened_are g xs (s ∷ ns) h =
-    let parts = and_parts (says xs s) (each (says xs) ns) h in
+    let parts = and_parts (says xs s) (list_all (says xs) ns) h in
     let p = s.name.packed in
     let mk : ℕ → FreeLink = λ p. record { name = record { packed = p }; link = g p } in
     let ks = filter (λ p. eqb (count p xs) 1) (packed_names ns) in

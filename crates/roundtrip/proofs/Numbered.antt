@@ -7,7 +7,8 @@ use Rattle.std.proofs.lemmas.Bool.{cases_eq, cond-true, cond-false, cond_both, e
 use Rattle.text.specs.declared.packed.Name.{Name}
 use Rattle.grammar.specs.declared.event.Event.{Event}
 use Rattle.grammar.specs.declared.event.Event.TheVariants as events
-use Rattle.showing.specs.Walk.{Step, atom, enter, leave, flat}
+use Rattle.std.specs.List.{flat_map}
+use Rattle.showing.specs.Walk.{Step, atom, enter, leave}
 use Rattle.showing.specs.Shown.{place, joins, firsts, step_links, step_events}
 use Rattle.showing.proofs.Totals.{all_append}
 
@@ -58,9 +59,8 @@ all_parts : {A : Type 0} (P : A → Type 0) (xs ys : List A) → All P (xs ++ ys
 all_parts P [] ys h = (tt, h)
 all_parts P (x ∷ xs) ys h = let r = all_parts P xs ys h.1 in ((h.0, r.0), r.1)
 
-pub steps_alike : {L : Type 0} (f g : ℕ → Name) (ss : List (Step L)) → All (λ x. f x ≡ g x) (flat step_links ss) → flat (step_events f) ss ≡ flat (step_events g) ss
-unfolding flat
+pub steps_alike : {L : Type 0} (f g : ℕ → Name) (ss : List (Step L)) → All (λ x. f x ≡ g x) (flat_map step_links ss) → flat_map (step_events f) ss ≡ flat_map (step_events g) ss
 steps_alike f g [] h = refl
 steps_alike f g (s ∷ ss) h =
-    let r = all_parts (λ x. f x ≡ g x) (step_links s) (flat step_links ss) h in
+    let r = all_parts (λ x. f x ≡ g x) (step_links s) (flat_map step_links ss) h in
     ap₂ (λ a b. a ++ b) (step_alike f g s r.0) (steps_alike f g ss r.1)

@@ -8,11 +8,12 @@ use Rattle.plan.specs.declared.tables.FreeLink.{FreeLink}
 use Rattle.plan.specs.Model.{Model}
 use Rattle.plan.specs.Sound.{count, distinct, port_links}
 use Rattle.showing.specs.Shown.{open_name, place, numbered, shown_name, ties, plan_events}
-use Rattle.showing.specs.Reading.{name_standings}
+use Rattle.showing.specs.Reading.{names_in}
 use Rattle.showing.proofs.Totals.{count_append}
 use Rattle.showing.proofs.Meeting.{Facts, met_links, met_count}
 use Rattle.showing.proofs.Freed.{names, links, open_here, open_later, count_here, count_later, open_found, open_none, apart_parts, not_first, tied, tied_none, tied_some, tied_never}
-use Rattle.grammar.specs.Reading.{underscored}
+use Rattle.text.specs.Packed.{underscored}
+use Rattle.grammar.specs.Reading.{}
 use Rattle.showing.proofs.Named.{number_underscored}
 use Rattle.showing.proofs.Twice.{underscored_none, place_low, found, count_image, apart, shown_packed, standing_is, shown_is}
 
@@ -73,12 +74,6 @@ lone_open p (f ∷ fs) h l =
     (cases_eq p f.name.packed)
 
 -- a link that stands among the free ones has an open name
-open_some : (x : ℕ) (fs : List FreeLink) → 0 < count x (links fs) → (a : Name) × (open_name x fs ≡ Some a)
-open_some x fs h = by (open_name x fs) refl
-  where
-    by : (o : Option Name) → open_name x fs ≡ o → (a : Name) × (open_name x fs ≡ Some a)
-    by None e = let z = open_none x fs e in absurd (omega arith)
-    by (Some a) e = (a, e)
 
 -- no link stands more than twice
 abbrev pub Few : List FreeLink → Type 0
@@ -103,7 +98,7 @@ module _ (L : Type 0) where
       (cases_eq p f.name.packed)
     where
       rest : List ℕ
-      rest = name_standings (ties {L = L} fs)
+      rest = names_in (ties {L = L} fs)
 
       here : p ≡ f.name.packed → (o : Option Name) → open_name f.link fs ≡ o → suc (tied L p (f ∷ fs)) ≡ count (link_of p (f ∷ fs)) (links (f ∷ fs))
       here e None g =
@@ -181,7 +176,7 @@ module _ {L : Type 0} (k : Kind L) (m : Model L) (f : Facts k m) where
       omega arith
 
   abbrev pub standings : ℕ → ℕ
-  standings p = count p (name_standings (plan_events m))
+  standings p = count p (names_in (plan_events m))
 
   abbrev pub at_ports : ℕ → ℕ
   at_ports p = count p (map (shown_packed k m f) (met_links k m f))

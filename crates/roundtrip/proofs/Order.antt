@@ -10,7 +10,7 @@ use Rattle.grammar.specs.State.{State, start, next_state, next_names, noted}
 use Rattle.grammar.specs.Reading.{events_from, hang_events, complete, unless_lone, first_lone, at_place}
 use Rattle.grammar.specs.Laws.{fault_of, spots, state_after}
 use Rattle.grammar.specs.Sheets.{text_names}
-use Rattle.placing.specs.Orderly.{name_standings}
+use Rattle.grammar.specs.Events.{name_standings}
 use Rattle.placing.specs.NamesOf.{packed_names}
 use Rattle.placing.proofs.NamesOf.{seen_names, passed, clean_text}
 use Rattle.showing.specs.Shown.{place, joins, firsts}

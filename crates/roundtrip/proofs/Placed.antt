@@ -13,13 +13,14 @@ use Rattle.plan.specs.declared.tables.Cell.{Cell}
 use Rattle.plan.specs.Model.{Model, Node}
 use Rattle.plan.specs.Sound.{count, no_cell}
 use Rattle.placing.specs.Placing.{Placing, with_port, or_root, parent_of, with_set, place_one, place_all}
-use Rattle.showing.specs.Walk.{Step, atom, enter, leave, flat, atoms_in, cells_in, walk}
+use Rattle.std.specs.List.{flat_map}
+use Rattle.showing.specs.Walk.{Step, atom, enter, leave, atoms_in, cells_in, walk}
 use Rattle.showing.specs.Shown.{place, step_events}
 use Rattle.showing.specs.Reading.{stream}
 use Rattle.showing.proofs.Totals.{count_append, all_weaker}
 use Rattle.showing.proofs.Visits.{parent, visits}
 use Rattle.showing.proofs.Freed.{count_here}
-use Rattle.showing.proofs.Runs.{flat_append}
+use Rattle.std.proofs.lemmas.List.Concat.{flat_map-append}
 use Rattle.roundtrip.proofs.Preorder.{Enough, inner, place_past}
 
 -- one more port for the last atom
@@ -88,12 +89,11 @@ module _ {L : Type 0} (k : Kind L) (link : Name → ℕ) where
         at_ports (place_one k link p (events.Label a.label)) ax (record { label = a.label; cell = i; links = [] }) cs i b a.links
         (record { atoms = ap₂ (λ t j. t ++ (record { label = a.label; cell = j; links = [] } ∷ [])) h.atoms h.inside; cells = h.cells; inside = h.inside; became = h.became })
 
-    at_atoms : (p : Placing L) (ax nodes : List (Node L)) (cs : List Cell) (i : ℕ) (b : List ℕ) → At p ax cs i b → At (run p (flat (step_events name) (map atom nodes))) (ax ++ map (moved i) nodes) cs i b
-    unfolding flat
+    at_atoms : (p : Placing L) (ax nodes : List (Node L)) (cs : List Cell) (i : ℕ) (b : List ℕ) → At p ax cs i b → At (run p (flat_map (step_events name) (map atom nodes))) (ax ++ map (moved i) nodes) cs i b
     at_atoms p ax [] cs i b h = at_none p (ax ++ []) cs i b (at_same h (sym (append-nil ax)) refl refl)
     at_atoms p ax (a ∷ nodes) cs i b h =
         let es = step_events name (atom a) in
-        let gs = flat (step_events name) (map atom nodes) in
+        let gs = flat_map (step_events name) (map atom nodes) in
         at_after p es gs (ax ++ (moved i a ∷ map (moved i) nodes)) cs i b
         (at_same (at_atoms (run p es) (ax ++ (moved i a ∷ [])) nodes cs i b (at_atom p ax a cs i b h)) (append_assoc ax (moved i a ∷ []) (map (moved i) nodes)) refl refl)
 
@@ -133,23 +133,22 @@ module _ {L : Type 0} (k : Kind L) (link : Name → ℕ) where
       new_atoms r = map (moved (row r)) (atoms_in r m.atoms)
 
       abbrev steps : List (Step L) → List (Event L)
-      steps ss = flat (step_events name) ss
+      steps ss = flat_map (step_events name) ss
 
       abbrev around : ℕ → ℕ → List (Step L)
       around n r = enter (get_or m.cells r no_cell).set ∷ (walk n m r ++ (leave ∷ []))
 
       around_is : (n r : ℕ) (rest : List (Step L)) → steps (around n r ++ rest) ≡ step_events name (enter (get_or m.cells r no_cell).set) ++ (steps (walk n m r) ++ (step_events name leave ++ steps rest))
-      unfolding flat
       around_is n r rest =
           ap (λ t. step_events name (enter (get_or m.cells r no_cell).set) ++ t)
-          (ap steps (append_assoc (walk n m r) (leave ∷ []) rest) ∙ flat_append (step_events name) (walk n m r) (leave ∷ rest))
+          (ap steps (append_assoc (walk n m r) (leave ∷ []) rest) ∙ flat_map-append (step_events name) (walk n m r) (leave ∷ rest))
 
       -- the cells below a cell are placed
       abbrev Places : ℕ → ℕ → Type 0
       Places n r =
           (pre post : List ℕ) (p : Placing L) (ax : List (Node L)) (b : List ℕ) → v ≡ pre ++ (visits m.cells n r ++ post)
           → At p ax (map new_cell (pre ++ (r ∷ []))) (row r) b
-          → At (run p (steps (walk n m r))) (ax ++ flat new_atoms (visits m.cells n r)) (map new_cell (pre ++ visits m.cells n r)) (row r) b
+          → At (run p (steps (walk n m r))) (ax ++ flat_map new_atoms (visits m.cells n r)) (map new_cell (pre ++ visits m.cells n r)) (row r) b
 
       row_is : (pre rest : List ℕ) (r : ℕ) → v ≡ pre ++ (r ∷ rest) → row r ≡ length pre
       row_is pre rest r e =
@@ -163,12 +162,12 @@ module _ {L : Type 0} (k : Kind L) (link : Name → ℕ) where
       through_one : (n c r : ℕ) (pre post : List ℕ) (p : Placing L) (ax : List (Node L)) (b : List ℕ) → Places (suc n) r → parent m.cells r ≡ Some c → v ≡ pre ++ (visits m.cells (suc n) r ++ post)
           → At p ax (map new_cell pre) (row c) b
           → (rest : List (Step L)) (ax' : List (Node L)) (cs' : List Cell)
-          → ((q : Placing L) → At q (ax ++ flat new_atoms (visits m.cells (suc n) r)) (map new_cell (pre ++ visits m.cells (suc n) r)) (row c) b → At (run q (steps rest)) ax' cs' (row c) b)
+          → ((q : Placing L) → At q (ax ++ flat_map new_atoms (visits m.cells (suc n) r)) (map new_cell (pre ++ visits m.cells (suc n) r)) (row c) b → At (run q (steps rest)) ax' cs' (row c) b)
           → At (run p (steps (around (suc n) r ++ rest))) ax' cs' (row c) b
       unfolding visits
       through_one n c r pre post p ax b ih up e h rest ax' cs' next =
           let j = (get_or m.cells r no_cell).set in
-          let below = flat (visits m.cells n) (cells_in r m.cells) in
+          let below = flat_map (visits m.cells n) (cells_in r m.cells) in
           let here : row r ≡ length pre = row_is pre (below ++ post) r e in
           let n1 = length-map pre new_cell in
           let c1 : Cell = record { parent = Some (row c); set = j } in
@@ -178,7 +177,7 @@ module _ {L : Type 0} (k : Kind L) (link : Name → ℕ) where
           let es1 = step_events name (enter j) in
           let es2 = steps (walk (suc n) m r) in
           let q2 = run (run p es1) es2 in
-          let ax2 = ax ++ flat new_atoms (visits m.cells (suc n) r) in
+          let ax2 = ax ++ flat_map new_atoms (visits m.cells (suc n) r) in
           let cs2 = map new_cell (pre ++ visits m.cells (suc n) r) in
           let three : At (run q2 (step_events name leave)) ax2 (map new_cell pre ++ (new_cell r ∷ map new_cell below)) (row c) b =
           at_leave q2 ax2 (map new_cell pre) (map new_cell below) (new_cell r) (row c) b (ap lifted up) (at_same two refl (map-append new_cell pre (r ∷ below)) (here ∙ sym n1)) in
@@ -188,34 +187,33 @@ module _ {L : Type 0} (k : Kind L) (link : Name → ℕ) where
           (at_after (run p es1) es2 (step_events name leave ++ steps rest) ax' cs' (row c) b
           (at_after q2 (step_events name leave) (steps rest) ax' cs' (row c) b four)))
 
-      through : (n c : ℕ) (rs pre post : List ℕ) (p : Placing L) (ax : List (Node L)) (b : List ℕ) → ((r : ℕ) → Enough m.cells n r → Places n r) → All (λ r. parent m.cells r ≡ Some c) rs → All (Enough m.cells n) rs → v ≡ pre ++ (flat (visits m.cells n) rs ++ post)
+      through : (n c : ℕ) (rs pre post : List ℕ) (p : Placing L) (ax : List (Node L)) (b : List ℕ) → ((r : ℕ) → Enough m.cells n r → Places n r) → All (λ r. parent m.cells r ≡ Some c) rs → All (Enough m.cells n) rs → v ≡ pre ++ (flat_map (visits m.cells n) rs ++ post)
           → At p ax (map new_cell pre) (row c) b
-          → At (run p (steps (flat (around n) rs))) (ax ++ flat new_atoms (flat (visits m.cells n) rs)) (map new_cell (pre ++ flat (visits m.cells n) rs)) (row c) b
-      unfolding flat
+          → At (run p (steps (flat_map (around n) rs))) (ax ++ flat_map new_atoms (flat_map (visits m.cells n) rs)) (map new_cell (pre ++ flat_map (visits m.cells n) rs)) (row c) b
       through n c [] pre post p ax b ih up g e h =
           at_none p (ax ++ []) (map new_cell (pre ++ [])) (row c) b (at_same h (sym (append-nil ax)) (ap (map new_cell) (sym (append-nil pre))) refl)
       through zero c (r ∷ rs) pre post p ax b ih up g e h = absurd g.0
       through (suc n) c (r ∷ rs) pre post p ax b ih up g e h =
           let vs = visits m.cells (suc n) r in
-          let ws = flat (visits m.cells (suc n)) rs in
-          through_one n c r pre (ws ++ post) p ax b (ih r g.0) up.0 (e ∙ ap (λ t. pre ++ t) (append_assoc vs ws post)) h (flat (around (suc n)) rs)
-          (ax ++ flat new_atoms (vs ++ ws)) (map new_cell (pre ++ (vs ++ ws)))
+          let ws = flat_map (visits m.cells (suc n)) rs in
+          through_one n c r pre (ws ++ post) p ax b (ih r g.0) up.0 (e ∙ ap (λ t. pre ++ t) (append_assoc vs ws post)) h (flat_map (around (suc n)) rs)
+          (ax ++ flat_map new_atoms (vs ++ ws)) (map new_cell (pre ++ (vs ++ ws)))
           (λ q w.
-          at_same (through (suc n) c rs (pre ++ vs) post q (ax ++ flat new_atoms vs) b ih up.1 g.1 (e ∙ (ap (λ t. pre ++ t) (append_assoc vs ws post) ∙ sym (append_assoc pre vs (ws ++ post)))) w)
-          (append_assoc ax (flat new_atoms vs) (flat new_atoms ws) ∙ ap (λ t. ax ++ t) (sym (flat_append new_atoms vs ws)))
+          at_same (through (suc n) c rs (pre ++ vs) post q (ax ++ flat_map new_atoms vs) b ih up.1 g.1 (e ∙ (ap (λ t. pre ++ t) (append_assoc vs ws post) ∙ sym (append_assoc pre vs (ws ++ post)))) w)
+          (append_assoc ax (flat_map new_atoms vs) (flat_map new_atoms ws) ∙ ap (λ t. ax ++ t) (sym (flat_map-append new_atoms vs ws)))
           (ap (map new_cell) (append_assoc pre vs ws)) refl)
 
       pub placed : (n r : ℕ) → Enough m.cells n r → Places n r
-      unfolding walk visits flat
+      unfolding walk visits
       placed zero r g pre post p ax b e h = absurd g
       placed (suc n) r g pre post p ax b e h =
           let rs = cells_in r m.cells in
-          let ws = flat (visits m.cells n) rs in
+          let ws = flat_map (visits m.cells n) rs in
           let nodes = atoms_in r m.atoms in
           let es = steps (map atom nodes) in
           let one = at_atoms p ax nodes (map new_cell (pre ++ (r ∷ []))) (row r) b h in
           let up = all_weaker (λ q. (q < length m.cells) × (parent m.cells q ≡ Some r)) (λ q. parent m.cells q ≡ Some r) rs (λ q w. w.1) (inner m.cells r) in
           let two = through n r rs (pre ++ (r ∷ [])) post (run p es) (ax ++ new_atoms r) b (λ q w. placed n q w) up g (e ∙ sym (append_assoc pre (r ∷ []) (ws ++ post))) one in
-          let three = at_same two (append_assoc ax (new_atoms r) (flat new_atoms ws)) (ap (map new_cell) (append_assoc pre (r ∷ []) ws)) refl in
-          subst (λ es. At (run p es) (ax ++ flat new_atoms (r ∷ ws)) (map new_cell (pre ++ (r ∷ ws))) (row r) b) (sym (flat_append (step_events name) (map atom nodes) (flat (around n) rs)))
-          (at_after p es (steps (flat (around n) rs)) (ax ++ flat new_atoms (r ∷ ws)) (map new_cell (pre ++ (r ∷ ws))) (row r) b three)
+          let three = at_same two (append_assoc ax (new_atoms r) (flat_map new_atoms ws)) (ap (map new_cell) (append_assoc pre (r ∷ []) ws)) refl in
+          subst (λ es. At (run p es) (ax ++ flat_map new_atoms (r ∷ ws)) (map new_cell (pre ++ (r ∷ ws))) (row r) b) (sym (flat_map-append (step_events name) (map atom nodes) (flat_map (around n) rs)))
+          (at_after p es (steps (flat_map (around n) rs)) (ax ++ flat_map new_atoms (r ∷ ws)) (map new_cell (pre ++ (r ∷ ws))) (row r) b three)

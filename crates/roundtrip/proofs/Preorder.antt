@@ -1,11 +1,13 @@
 -- The cells of a sound plan in the order of a walk.
-use Rattle.std.proofs.Common.{◌≡◌, ℕ, zero, suc, ◌+◌, ◌<◌, ◌≤◌, Bool, true, false, cond, eqb, List, [], ◌∷◌, ◌++◌, map, length, get_or, Some, None, filter, sym, refl, ap, ◌∙◌, ap₂, ⊎_elim, append_assoc, append-nil, arith, length-append}
+use Rattle.std.proofs.lemmas.List.Elements.{filter-append}
+use Rattle.std.proofs.Common.{◌≡◌, ℕ, zero, suc, ◌+◌, ◌<◌, ◌≤◌, Bool, true, cond, eqb, List, [], ◌∷◌, ◌++◌, map, length, get_or, Some, None, filter, sym, refl, ap, ◌∙◌, ap₂, ⊎_elim, append_assoc, append-nil, arith, length-append}
 use Rattle.std.specs.List.{AllByRecursion as All}
 use Rattle.std.proofs.lemmas.Bool.Decides.{nat_tests}
 use Rattle.std.proofs.lemmas.Bool.{cases_lt, cases_eq, cond-true, cond-false, eq-eqb, ne_eqb}
 use Rattle.plan.specs.declared.tables.Cell.{Cell}
 use Rattle.plan.specs.Sound.{count, leads, rows}
-use Rattle.showing.specs.Walk.{flat, has_parent, cells_in}
+use Rattle.std.specs.List.{flat_map}
+use Rattle.showing.specs.Walk.{has_parent, cells_in}
 use Rattle.showing.specs.Shown.{place}
 use Rattle.showing.proofs.Totals.{count_append, all_kept, all_rows, all_weaker}
 use Rattle.showing.proofs.Visits.{parent, visits}
@@ -57,18 +59,6 @@ places v d = places_from v [] v refl d
 
 -- ** what is kept
 
-pub kept_append : {A : Type 0} (p : A → Bool) (xs ys : List A) → filter p (xs ++ ys) ≡ filter p xs ++ filter p ys
-kept_append p [] ys = refl
-kept_append p (x ∷ xs) ys =
-    let ih = kept_append p xs ys in
-    elim (p x) as (λ v. cond v (x ∷ filter p (xs ++ ys)) (filter p (xs ++ ys)) ≡ cond v (x ∷ filter p xs) (filter p xs) ++ filter p ys) [ true ↦ ap (λ t. x ∷ t) ih | false ↦ ih ]
-
-pub kept_map : {A B : Type 0} (p : B → Bool) (g : A → B) (xs : List A) → filter p (map g xs) ≡ map g (filter (λ x. p (g x)) xs)
-kept_map p g [] = refl
-kept_map p g (x ∷ xs) =
-    let ih = kept_map p g xs in
-    elim (p (g x)) as (λ v. cond v (g x ∷ filter p (map g xs)) (filter p (map g xs)) ≡ map g (cond v (x ∷ filter (λ x. p (g x)) xs) (filter (λ x. p (g x)) xs))) [ true ↦ ap (λ t. g x ∷ t) ih | false ↦ ih ]
-
 pub kept_alike : {A : Type 0} (p q : A → Bool) (xs : List A) → All (λ x. p x ≡ q x) xs → filter p xs ≡ filter q xs
 kept_alike p q [] h = refl
 kept_alike p q (x ∷ xs) h = ap₂ (λ v t. cond v (x ∷ t) t) h.0 (kept_alike p q xs h.1)
@@ -100,7 +90,7 @@ module _ (cells : List Cell) where
     own xs = filter (λ r. has_parent c (parent cells r)) xs
 
     abbrev Below : ℕ → ℕ → Type 0
-    Below n r = (count c (visits cells (suc n) r) ≡ 0 → own (flat (visits cells n) (cells_in r cells)) ≡ []) × (count c (visits cells (suc n) r) ≡ 1 → own (flat (visits cells n) (cells_in r cells)) ≡ cells_in c cells)
+    Below n r = (count c (visits cells (suc n) r) ≡ 0 → own (flat_map (visits cells n) (cells_in r cells)) ≡ []) × (count c (visits cells (suc n) r) ≡ 1 → own (flat_map (visits cells n) (cells_in r cells)) ≡ cells_in c cells)
 
     own_first : (x : ℕ) (xs : List ℕ) → parent cells x ≡ Some c → own (x ∷ xs) ≡ x ∷ own xs
     own_first x xs h = cond-true (has_parent c (parent cells x)) _ _ (ap (has_parent c) h ∙ eq-eqb c c refl)
@@ -112,28 +102,28 @@ module _ (cells : List Cell) where
     visits_split n x rest = count_append c (visits cells (suc n) x) rest
 
     -- through cells of the cell
-    own_inner : (n : ℕ) (xs : List ℕ) → ((r : ℕ) → Enough (suc n) r → Below n r) → All (λ r. parent cells r ≡ Some c) xs → All (Enough (suc n)) xs → count c (flat (visits cells (suc n)) xs) ≡ 0 → own (flat (visits cells (suc n)) xs) ≡ xs
-    unfolding flat visits
+    own_inner : (n : ℕ) (xs : List ℕ) → ((r : ℕ) → Enough (suc n) r → Below n r) → All (λ r. parent cells r ≡ Some c) xs → All (Enough (suc n)) xs → count c (flat_map (visits cells (suc n)) xs) ≡ 0 → own (flat_map (visits cells (suc n)) xs) ≡ xs
+    unfolding visits
     own_inner n [] ih h g z = refl
     own_inner n (x ∷ xs) ih h g z =
-        let s = visits_split n x (flat (visits cells (suc n)) xs) in
-        let t = flat (visits cells n) (cells_in x cells) in
-        own_first x (t ++ flat (visits cells (suc n)) xs) h.0
-        ∙ ap (λ w. x ∷ w) (kept_append (λ r. has_parent c (parent cells r)) t (flat (visits cells (suc n)) xs)
+        let s = visits_split n x (flat_map (visits cells (suc n)) xs) in
+        let t = flat_map (visits cells n) (cells_in x cells) in
+        own_first x (t ++ flat_map (visits cells (suc n)) xs) h.0
+        ∙ ap (λ w. x ∷ w) (filter-append (λ r. has_parent c (parent cells r)) t (flat_map (visits cells (suc n)) xs)
         ∙ ap₂ (λ a b. a ++ b) ((ih x g.0).0 (omega arith)) (own_inner n xs ih h.1 g.1 (omega arith)))
 
     -- through cells of another
-    own_apart : (n d : ℕ) (xs : List ℕ) → (d ≡ c → ⊥) → ((r : ℕ) → Enough (suc n) r → Below n r) → All (λ r. parent cells r ≡ Some d) xs → All (Enough (suc n)) xs → (count c (flat (visits cells (suc n)) xs) ≡ 0 → own (flat (visits cells (suc n)) xs) ≡ []) × (count c (flat (visits cells (suc n)) xs) ≡ 1 → own (flat (visits cells (suc n)) xs) ≡ cells_in c cells)
-    unfolding flat visits
+    own_apart : (n d : ℕ) (xs : List ℕ) → (d ≡ c → ⊥) → ((r : ℕ) → Enough (suc n) r → Below n r) → All (λ r. parent cells r ≡ Some d) xs → All (Enough (suc n)) xs → (count c (flat_map (visits cells (suc n)) xs) ≡ 0 → own (flat_map (visits cells (suc n)) xs) ≡ []) × (count c (flat_map (visits cells (suc n)) xs) ≡ 1 → own (flat_map (visits cells (suc n)) xs) ≡ cells_in c cells)
+    unfolding visits
     own_apart n d [] a ih h g = (λ z. refl, λ z. absurd (none z))
       where
         none : count c [] ≡ 1 → ⊥
         none z = let e = count_none c in omega arith
     own_apart n d (x ∷ xs) a ih h g =
-        let rest = flat (visits cells (suc n)) xs in
+        let rest = flat_map (visits cells (suc n)) xs in
         let s = visits_split n x rest in
-        let t = flat (visits cells n) (cells_in x cells) in
-        let e : own (visits cells (suc n) x ++ rest) ≡ own t ++ own rest = own_other x d (t ++ rest) a h.0 ∙ kept_append (λ r. has_parent c (parent cells r)) t rest in
+        let t = flat_map (visits cells n) (cells_in x cells) in
+        let e : own (visits cells (suc n) x ++ rest) ≡ own t ++ own rest = own_other x d (t ++ rest) a h.0 ∙ filter-append (λ r. has_parent c (parent cells r)) t rest in
         let first = ih x g.0 in
         let later = own_apart n d xs a ih h.1 g.1 in (
           λ z. e ∙ ap₂ (λ a b. a ++ b) (first.0 (omega arith)) (later.0 (omega arith)),
@@ -144,8 +134,8 @@ module _ (cells : List Cell) where
               (cases_lt 0 (count c (visits cells (suc n) x))),
         )
 
-    flat_none : (xs : List ℕ) → flat (visits cells 0) xs ≡ []
-    unfolding flat visits
+    flat_none : (xs : List ℕ) → flat_map (visits cells 0) xs ≡ []
+    unfolding visits
     flat_none [] = refl
     flat_none (x ∷ xs) = flat_none xs
 
@@ -156,7 +146,7 @@ module _ (cells : List Cell) where
     pub below : (n r : ℕ) → Enough (suc n) r → Below n r
     unfolding visits
     below zero r g =
-        let t = flat (visits cells 0) (cells_in r cells) in
+        let t = flat_map (visits cells 0) (cells_in r cells) in
         let e = flat_none (cells_in r cells) in (
           λ z. ap own e,
           λ z.
@@ -166,7 +156,7 @@ module _ (cells : List Cell) where
               (cases_eq c r),
         )
     below (suc n) r g =
-        let t = flat (visits cells (suc n)) (cells_in r cells) in
+        let t = flat_map (visits cells (suc n)) (cells_in r cells) in
         ⊎_elim
         (λ (i : c ≡ r).
         let l = count_here c r t i in (

@@ -4,7 +4,8 @@ use Rattle.std.proofs.lemmas.Bool.{and_parts, or_cases, cases_Bool, both_ways, n
 use Rattle.label.specs.Kind.{Kind, Lawful}
 use Rattle.plan.specs.declared.tables.Census.{Census}
 use Rattle.plan.specs.Model.{Node}
-use Rattle.plan.specs.Sound.{alike, ascending, atoms_of, each, first_above, registered, row_right}
+use Rattle.std.specs.List.{list_all}
+use Rattle.plan.specs.Sound.{alike, ascending, atoms_of, first_above, registered, row_right}
 
 module _ {L : Type 0} (k : Kind L) (law : Lawful k) where
   alike_same : (a b : L) → k.mine a ≡ true → k.mine b ≡ true → alike k a b ≡ true → a ≡ b
@@ -98,11 +99,10 @@ module _ {L : Type 0} (k : Kind L) (law : Lawful k) where
 
   -- a right register
 
-  rows_of : (nodes : List (Node L)) (cs : List (Census L)) → each (row_right k nodes) cs ≡ true → Rows (λ l. atoms_of k l nodes) cs
-  unfolding each
+  rows_of : (nodes : List (Node L)) (cs : List (Census L)) → list_all (row_right k nodes) cs ≡ true → Rows (λ l. atoms_of k l nodes) cs
   rows_of nodes [] h = tt
   rows_of nodes (c ∷ cs) h =
-      let both = and_parts (row_right k nodes c) (each (row_right k nodes) cs) h in
+      let both = and_parts (row_right k nodes c) (list_all (row_right k nodes) cs) h in
       let mine = and_parts (k.mine c.label) (ltb 0 c.atoms && eqb c.atoms (atoms_of k c.label nodes)) both.0 in
       let rest = and_parts (ltb 0 c.atoms) (eqb c.atoms (atoms_of k c.label nodes)) mine.1 in
       (mine.0, (ltb-true 0 c.atoms rest.0, (eqb-true c.atoms (atoms_of k c.label nodes) rest.1, rows_of nodes cs both.1)))
@@ -117,18 +117,18 @@ module _ {L : Type 0} (k : Kind L) (law : Lawful k) where
       (or_cases (alike k l c.label) (registered k l cs) h)
 
   -- a label that some atom has is in a complete register
-  found : (n : L → ℕ) (l : L) (nodes : List (Node L)) (cs : List (Census L)) → k.mine l ≡ true → each (λ a. k.mine a.label) nodes ≡ true → each (λ a. registered k a.label cs) nodes ≡ true → Rows n cs → 0 < atoms_of k l nodes → Has l cs
-  unfolding each atoms_of
+  found : (n : L → ℕ) (l : L) (nodes : List (Node L)) (cs : List (Census L)) → k.mine l ≡ true → list_all (λ a. k.mine a.label) nodes ≡ true → list_all (λ a. registered k a.label cs) nodes ≡ true → Rows n cs → 0 < atoms_of k l nodes → Has l cs
+  unfolding atoms_of
   found n l [] cs m g h r s = absurd (omega arith)
   found n l (a ∷ nodes) cs m g h r s =
-      let mines = and_parts (k.mine a.label) (each (λ a. k.mine a.label) nodes) g in
-      let both = and_parts (registered k a.label cs) (each (λ a. registered k a.label cs) nodes) h in
+      let mines = and_parts (k.mine a.label) (list_all (λ a. k.mine a.label) nodes) g in
+      let both = and_parts (registered k a.label cs) (list_all (λ a. registered k a.label cs) nodes) h in
       ⊎_elim
       (λ (e : alike k l a.label ≡ true). has_of n l cs m r (ap (λ l. registered k l cs) (alike_same l a.label m mines.0 e) ∙ both.0))
       (λ (e : alike k l a.label ≡ false). found n l nodes cs m mines.1 both.1 r (subst (λ v. 0 < cond v (suc (atoms_of k l nodes)) (atoms_of k l nodes)) e s))
       (cases_Bool (alike k l a.label))
 
-  within : (n : L → ℕ) (nodes : List (Node L)) (cs ds : List (Census L)) → ((l : L) → atoms_of k l nodes ≡ n l) → each (λ a. k.mine a.label) nodes ≡ true → each (λ a. registered k a.label ds) nodes ≡ true → Rows n cs → Rows n ds → Within cs ds
+  within : (n : L → ℕ) (nodes : List (Node L)) (cs ds : List (Census L)) → ((l : L) → atoms_of k l nodes ≡ n l) → list_all (λ a. k.mine a.label) nodes ≡ true → list_all (λ a. registered k a.label ds) nodes ≡ true → Rows n cs → Rows n ds → Within cs ds
   within n nodes [] ds e g h r s = tt
   within n nodes (c ∷ cs) ds e g h r s =
       let some = r.1.0 in
@@ -141,16 +141,16 @@ module _ {L : Type 0} (k : Kind L) (law : Lawful k) where
   rows_alike n p (c ∷ cs) e r = (r.0, (r.1.0, (r.1.1.0 ∙ e c.label, rows_alike n p cs e r.1.1.1)))
 
   pub same_register : (xs ys : List (Node L)) (cs ds : List (Census L)) → ((l : L) → atoms_of k l xs ≡ atoms_of k l ys)
-      → each (λ a. k.mine a.label) xs ≡ true → each (λ a. k.mine a.label) ys ≡ true
-      → (ascending k cs && (each (row_right k xs) cs && each (λ a. registered k a.label cs) xs)) ≡ true
-      → (ascending k ds && (each (row_right k ys) ds && each (λ a. registered k a.label ds) ys)) ≡ true
+      → list_all (λ a. k.mine a.label) xs ≡ true → list_all (λ a. k.mine a.label) ys ≡ true
+      → (ascending k cs && (list_all (row_right k xs) cs && list_all (λ a. registered k a.label cs) xs)) ≡ true
+      → (ascending k ds && (list_all (row_right k ys) ds && list_all (λ a. registered k a.label ds) ys)) ≡ true
       → cs ≡ ds
   same_register xs ys cs ds e g h a b =
       let n : L → ℕ = λ l. atoms_of k l xs in
-      let p = and_parts (ascending k cs) (each (row_right k xs) cs && each (λ a. registered k a.label cs) xs) a in
-      let q = and_parts (each (row_right k xs) cs) (each (λ a. registered k a.label cs) xs) p.1 in
-      let r = and_parts (ascending k ds) (each (row_right k ys) ds && each (λ a. registered k a.label ds) ys) b in
-      let s = and_parts (each (row_right k ys) ds) (each (λ a. registered k a.label ds) ys) r.1 in
+      let p = and_parts (ascending k cs) (list_all (row_right k xs) cs && list_all (λ a. registered k a.label cs) xs) a in
+      let q = and_parts (list_all (row_right k xs) cs) (list_all (λ a. registered k a.label cs) xs) p.1 in
+      let r = and_parts (ascending k ds) (list_all (row_right k ys) ds && list_all (λ a. registered k a.label ds) ys) b in
+      let s = and_parts (list_all (row_right k ys) ds) (list_all (λ a. registered k a.label ds) ys) r.1 in
       let u : Rows n cs = rows_of xs cs q.0 in
       let v : Rows n ds = rows_alike (λ l. atoms_of k l ys) n ds (λ l. sym (e l)) (rows_of ys ds s.0) in
       same_rows n cs ds u v p.0 r.0 (within n ys cs ds (λ l. sym (e l)) h s.1 u v) (within n xs ds cs (λ l. refl) g q.1 v u)

@@ -9,12 +9,13 @@ use Rattle.grammar.specs.Laws.{fault_of}
 use Rattle.plan.specs.declared.tables.FreeLink.{FreeLink}
 use Rattle.plan.specs.Model.{Model, Node}
 use Rattle.plan.specs.Sound.{alike, atoms_of}
-use Rattle.placing.specs.Counts.{summed, labels_at, cells_at, label_at}
-use Rattle.placing.specs.Orderly as orderly
-use Rattle.showing.specs.Walk.{Step, atom, enter, leave, flat, whole_walk}
+use Rattle.grammar.specs.Events.{summed}
+use Rattle.placing.specs.Counts.{labels_at, cells_at, label_at}
+use Rattle.std.specs.List.{flat_map}
+use Rattle.showing.specs.Walk.{Step, atom, enter, leave, whole_walk}
 use Rattle.showing.specs.Shown.{open_name, shown_name, set_events, step_events, tie, ties, plan_events}
-use Rattle.showing.specs.Reading.{stream, name_standings}
-use Rattle.showing.proofs.Totals.{total, total_append, total_alike, total_flat, total_map, total_none, length_total}
+use Rattle.showing.specs.Reading.{stream}
+use Rattle.showing.proofs.Totals.{summed_total, total, total_append, total_alike, total_flat, total_map, total_none, length_total}
 use Rattle.showing.proofs.Visits.{weigh}
 use Rattle.showing.proofs.Meeting.{Facts, walk_weight}
 
@@ -22,22 +23,6 @@ pub stream_clean : {L : Type 0} (es : List (Event L)) → fault_of (stream es) �
 unfolding stream
 stream_clean [] = refl
 stream_clean (e ∷ es) = stream_clean es
-
-pub stream_standings : {L : Type 0} (es : List (Event L)) → orderly.name_standings (stream es) ≡ name_standings es
-unfolding stream orderly.name_standings name_standings
-stream_standings [] = refl
-stream_standings (events.Label l ∷ es) = stream_standings es
-stream_standings (events.Port n ∷ es) = ap (λ ns. n.packed ∷ ns) (stream_standings es)
-stream_standings (events.Enter ∷ es) = stream_standings es
-stream_standings (events.Leave ∷ es) = stream_standings es
-stream_standings (events.Set j ∷ es) = stream_standings es
-stream_standings (events.First n ∷ es) = ap (λ ns. n.packed ∷ ns) (stream_standings es)
-stream_standings (events.Second n ∷ es) = ap (λ ns. n.packed ∷ ns) (stream_standings es)
-
-summed_total : {L : Type 0} (f : Event L → ℕ) (es : List (Event L)) → summed f (stream es) ≡ total f es
-unfolding stream summed total
-summed_total f [] = refl
-summed_total f (e ∷ es) = ap (λ n. f e + n) (summed_total f es)
 
 -- what counts no names counts nothing in connectors
 ties_none : {L : Type 0} (f : Event L → ℕ) → ((n : Name) → f (events.First n) ≡ 0) → ((n : Name) → f (events.Second n) ≡ 0) → (fs : List FreeLink) → total f (ties fs) ≡ 0
@@ -59,7 +44,7 @@ module _ {L : Type 0} (k : Kind L) (m : Model L) (facts : Facts k m) where
   counted f w u a b h =
       let steps = whole_walk m in
       let t = summed_total f (plan_events m) in
-      let s = total_append f (flat (step_events (shown_name m)) steps) (ties m.free) in
+      let s = total_append f (flat_map (step_events (shown_name m)) steps) (ties m.free) in
       let c = total_flat f (step_events (shown_name m)) steps ∙ total_alike (λ s. total f (step_events (shown_name m) s)) (weigh w u 0) steps h in
       let n = ties_none f a b m.free in
       let e = walk_weight k m facts w u 0 in

@@ -1,4 +1,5 @@
 -- The text of a sound plan hangs on an empty plan, and takes as much room.
+use Rattle.placing.proofs.HangSound.{adding_keeps}
 use Rattle.std.proofs.Common.{◌≡◌, ℕ, ◌<◌, ◌≤◌, true, false, eqb, List, [], ◌∷◌, map, length, is_some, Some, None, sym, refl, ap, ◌∙◌, ⊎_elim, zero-add, arith}
 use lib.ListN.{length-map}
 use Rattle.std.proofs.lemmas.Bool.{cases_eq, cases_lt, cond-true, cond-false, eq-eqb, ne_eqb, both_ways}
@@ -10,13 +11,11 @@ use Rattle.grammar.specs.Sheets.{text_names}
 use Rattle.plan.specs.declared.tables.FreeLink.{FreeLink}
 use Rattle.plan.specs.declared.tables.Plan.{Plan}
 use Rattle.plan.specs.Model.{Model, model_of, struck}
-use Rattle.plan.specs.Sound.{Sound, ascending, atoms_of, count, each, leads, registered, rows}
-use Rattle.register.proofs.Adding.{adding}
+use Rattle.plan.specs.Sound.{Sound, ascending, atoms_of, count, leads, registered, rows}
 use Rattle.placing.specs.Counts as counts
-use Rattle.placing.specs.Keeps.{AddingKeeps}
 use Rattle.placing.specs.Laws.{HangLaws, is_open}
 use Rattle.placing.specs.Links.{open_link, opened, link_at}
-use Rattle.placing.specs.Orderly as orderly
+use Rattle.grammar.specs.Events.{name_standings, summed}
 use Rattle.placing.specs.Placing.{Placing, begun, links_in, place_all, refreed}
 use Rattle.placing.specs.NamesOf.{packed_names}
 use Rattle.placing.proofs.HangLaws.{hang_laws}
@@ -35,7 +34,7 @@ use Rattle.showing.proofs.Freed.{names, count_here, count_later}
 use Rattle.showing.proofs.Meeting.{Facts, facts}
 use Rattle.showing.proofs.Readable.{shown_readable}
 use Rattle.roundtrip.specs.Roundtrip.{rehung, Taken, TakenAgain}
-use Rattle.roundtrip.proofs.Sizes.{stream_clean, stream_standings, atoms_counted, cells_counted, labels_counted}
+use Rattle.roundtrip.proofs.Sizes.{stream_clean, atoms_counted, cells_counted, labels_counted}
 use Rattle.roundtrip.proofs.Registers.{same_register}
 use Rattle.roundtrip.proofs.Once.{standings, open_once, other_twice}
 use Rattle.roundtrip.proofs.Tallies.{same_length}
@@ -60,11 +59,8 @@ refreed_names : (b : List ℕ) (fs : List FreeLink) → names (map (refreed b) f
 refreed_names b [] = refl
 refreed_names b (f ∷ fs) = ap (λ ns. f.name.packed ∷ ns) (refreed_names b fs)
 
-pub keeps : {L : Type 0} (k : Kind L) → Lawful k → AddingKeeps k
-keeps k law nodes cs a h ms mine = adding k a.label law mine cs nodes a refl ms h
-
 begun_goes : {L : Type 0} (k : Kind L) → Going k 0 0 (begun struck)
-unfolding each leads rows climb ascending registered last_fits
+unfolding leads rows climb ascending registered last_fits
 begun_goes k = record { root = refl; depth = refl; sets = refl; labels = refl; homes = refl; ports = refl; room = refl; up = refl; register = refl }
 
 module _ {L : Type 0} (k : Kind L) (law : Lawful k) (p : Plan L) (s : Sound k p) where
@@ -87,8 +83,8 @@ module _ {L : Type 0} (k : Kind L) (law : Lawful k) (p : Plan L) (s : Sound k p)
   laws = hang_laws k law struck text clean
 
   -- how often a name stands in the events
-  pub events_standings : (n : ℕ) → count n (orderly.name_standings (hang_events k 0 text)) ≡ standings k m f n
-  events_standings n = ap (count n) (ap orderly.name_standings back ∙ stream_standings (plan_events m))
+  pub events_standings : (n : ℕ) → count n (name_standings (hang_events k 0 text)) ≡ standings k m f n
+  events_standings n = ap (count n) (ap name_standings back)
 
   free_few : (n : ℕ) → count n (names (rehung k m).free) ≤ 1
   free_few n =
@@ -110,14 +106,14 @@ module _ {L : Type 0} (k : Kind L) (law : Lawful k) (p : Plan L) (s : Sound k p)
       ⊎_elim
       (λ (h : 0 < count n (names m.free)).
       let one = (open_once k m f n h).1 in
-      let t = cond-true (eqb (count n (orderly.name_standings (hang_events k 0 text))) 1) true false (eq-eqb _ 1 (e ∙ one)) in
+      let t = cond-true (eqb (count n (name_standings (hang_events k 0 text))) 1) true false (eq-eqb _ 1 (e ∙ one)) in
       ⊎_elim
       (λ (g : 0 < count n (names (rehung k m).free)). omega arith)
       (λ (g : count n (names (rehung k m).free) ≤ 0). absurd (both_ways (is_open (record { packed = n }) (rehung k m).free) (o.1 (omega arith)) (l ∙ t)))
       (cases_lt 0 (count n (names (rehung k m).free))))
       (λ (h : count n (names m.free) ≤ 0).
       let not_one : (standings k m f n ≡ 1 → ⊥) = λ i. (let x = other_twice k m f n (omega arith) (omega arith) in omega arith) in
-      let t = cond-false (eqb (count n (orderly.name_standings (hang_events k 0 text))) 1) true false (ne_eqb _ 1 (λ i. not_one (sym e ∙ i))) in
+      let t = cond-false (eqb (count n (name_standings (hang_events k 0 text))) 1) true false (ne_eqb _ 1 (λ i. not_one (sym e ∙ i))) in
       ⊎_elim
       (λ (g : 0 < count n (names (rehung k m).free)). absurd (both_ways (is_open (record { packed = n }) (rehung k m).free) (l ∙ t) (o.0 g)))
       (λ (g : count n (names (rehung k m).free) ≤ 0). omega arith)
@@ -130,17 +126,17 @@ module _ {L : Type 0} (k : Kind L) (law : Lawful k) (p : Plan L) (s : Sound k p)
       let links : List ℕ = links_in (struck {L = L}) (text_names text) in
       let link = link_at (text_names text) links in
       let last = place_all k link (begun struck) (hang_events k 0 text) in
-      let going = goes_all k link (keeps k law) 0 0 false (begun struck) (hang_events k 0 text) (orderly_text k law text) clean (begun_goes k) in
+      let going = goes_all k link (adding_keeps k law) 0 0 false (begun struck) (hang_events k 0 text) (orderly_text k law text) clean (begun_goes k) in
       same_register k law last.atoms m.atoms last.register m.register
-      (λ l. all_labels k link l (begun struck) (hang_events k 0 text) ∙ (zero-add _ ∙ (ap (counts.summed (counts.label_at k l)) back ∙ labels_counted k m f l)))
+      (λ l. all_labels k link l (begun struck) (hang_events k 0 text) ∙ (zero-add _ ∙ (ap (summed (counts.label_at k l)) back ∙ labels_counted k m f l)))
       going.labels s.labels going.register (model_sound k p s).register
 
   pub taken : Taken k m
   taken =
       let a = atoms_counted k m f in
       let b = cells_counted k m f in
-      let c = ap (counts.summed counts.labels_at) back in
-      let d = ap (counts.summed counts.cells_at) back in
+      let c = ap (summed counts.labels_at) back in
+      let d = ap (summed counts.cells_at) back in
       let e = laws.atom_number in
       let g = laws.cell_number in
       record {

@@ -1,4 +1,8 @@
 -- A walk through a plan whose rows lie in the order of another's walk.
+use Rattle.std.proofs.lemmas.List.Elements.{filter-append}
+use Rattle.showing.proofs.Lists.{kept_map, map_flat}
+use Rattle.std.proofs.lemmas.Simd.{map-map}
+use Rattle.std.proofs.lemmas.List.Folds.{flat_map-map}
 use Rattle.std.proofs.Common.{◌≡◌, ℕ, zero, suc, ◌<◌, ◌≤◌, Bool, eqb, List, [], ◌∷◌, ◌++◌, map, length, get_or, Some, None, filter, Option, sym, refl, ap, ◌∙◌, ap₂, ⊎_elim, append-nil, arith}
 use mathlib.Core.List.{map-append}
 use lib.ListN.{length-map}
@@ -9,13 +13,14 @@ use Rattle.grammar.specs.declared.event.Event.TheVariants as events
 use Rattle.plan.specs.declared.tables.Cell.{Cell}
 use Rattle.plan.specs.Model.{Model, Node}
 use Rattle.plan.specs.Sound.{count, no_cell, rows}
-use Rattle.showing.specs.Walk.{Step, atom, enter, leave, flat, has_parent, atoms_in, cells_in, walk}
+use Rattle.std.specs.List.{flat_map}
+use Rattle.showing.specs.Walk.{Step, atom, enter, leave, has_parent, atoms_in, cells_in, walk}
 use Rattle.showing.specs.Shown.{place, step_links, step_events}
 use Rattle.showing.proofs.Totals.{all_weaker}
 use Rattle.showing.proofs.Visits.{parent}
 use Rattle.showing.proofs.Freed.{count_here, count_later}
 use Rattle.showing.proofs.Named.{place_same}
-use Rattle.roundtrip.proofs.Preorder.{count_none, place_in, getD_place, places, kept_append, kept_map, kept_alike, inner}
+use Rattle.roundtrip.proofs.Preorder.{count_none, place_in, getD_place, places, kept_alike, inner}
 use Rattle.roundtrip.proofs.Tallies.{all_standing}
 
 -- a step, without the cell of its atom, and its links as another function has them
@@ -28,34 +33,18 @@ pub map_self : (xs : List ℕ) → map (λ x. x) xs ≡ xs
 map_self [] = refl
 map_self (x ∷ xs) = ap (λ t. x ∷ t) (map_self xs)
 
-pub map_twice : {A B C : Type 0} (f : B → C) (g : A → B) (xs : List A) → map f (map g xs) ≡ map (λ x. f (g x)) xs
-map_twice f g [] = refl
-map_twice f g (x ∷ xs) = ap (λ t. f (g x) ∷ t) (map_twice f g xs)
-
-pub flat_map : {A B C : Type 0} (f : B → List C) (g : A → B) (xs : List A) → flat f (map g xs) ≡ flat (λ x. f (g x)) xs
-unfolding flat
-flat_map f g [] = refl
-flat_map f g (x ∷ xs) = ap (λ t. f (g x) ++ t) (flat_map f g xs)
-
-pub flat_alike : {A B : Type 0} (f g : A → List B) (xs : List A) → All (λ x. f x ≡ g x) xs → flat f xs ≡ flat g xs
-unfolding flat
+pub flat_alike : {A B : Type 0} (f g : A → List B) (xs : List A) → All (λ x. f x ≡ g x) xs → flat_map f xs ≡ flat_map g xs
 flat_alike f g [] h = refl
 flat_alike f g (x ∷ xs) h = ap₂ (λ a b. a ++ b) h.0 (flat_alike f g xs h.1)
-
-pub map_flat : {A B C : Type 0} (g : B → C) (f : A → List B) (xs : List A) → map g (flat f xs) ≡ flat (λ x. map g (f x)) xs
-unfolding flat
-map_flat g f [] = refl
-map_flat g f (x ∷ xs) = map-append g (f x) (flat f xs) ∙ ap (λ t. map g (f x) ++ t) (map_flat g f xs)
 
 -- what a bare step shows
 
 bare_events : {L : Type 0} (name : ℕ → Name) (h : ℕ → ℕ) (s : Step L) → step_events name (bare h s) ≡ step_events (λ x. name (h x)) s
-bare_events name h (atom a) = ap (λ t. events.Label a.label ∷ t) (map_twice (λ x. events.Port (name x)) h a.links)
+bare_events name h (atom a) = ap (λ t. events.Label a.label ∷ t) (map-map (λ x. events.Port (name x)) h a.links)
 bare_events name h (enter j) = refl
 bare_events name h leave = refl
 
-pub bare_shown : {L : Type 0} (name : ℕ → Name) (h : ℕ → ℕ) (ss : List (Step L)) → flat (step_events name) (map (bare h) ss) ≡ flat (step_events (λ x. name (h x))) ss
-unfolding flat
+pub bare_shown : {L : Type 0} (name : ℕ → Name) (h : ℕ → ℕ) (ss : List (Step L)) → flat_map (step_events name) (map (bare h) ss) ≡ flat_map (step_events (λ x. name (h x))) ss
 bare_shown name h [] = refl
 bare_shown name h (s ∷ ss) = ap₂ (λ a b. a ++ b) (bare_events name h s) (bare_shown name h ss)
 
@@ -64,10 +53,9 @@ bare_one h (atom a) = refl
 bare_one h (enter j) = refl
 bare_one h leave = refl
 
-pub bare_links : {L : Type 0} (h : ℕ → ℕ) (ss : List (Step L)) → flat step_links (map (bare h) ss) ≡ map h (flat step_links ss)
-unfolding flat
+pub bare_links : {L : Type 0} (h : ℕ → ℕ) (ss : List (Step L)) → flat_map step_links (map (bare h) ss) ≡ map h (flat_map step_links ss)
 bare_links h [] = refl
-bare_links h (s ∷ ss) = ap₂ (λ a b. a ++ b) (bare_one h s) (bare_links h ss) ∙ sym (map-append h (step_links s) (flat step_links ss))
+bare_links h (s ∷ ss) = ap₂ (λ a b. a ++ b) (bare_one h s) (bare_links h ss) ∙ sym (map-append h (step_links s) (flat_map step_links ss))
 
 module _ {L : Type 0} (m n : Model L) (v : List ℕ) (h : ℕ → ℕ) where
   -- the new row of a cell
@@ -93,7 +81,7 @@ module _ {L : Type 0} (m n : Model L) (v : List ℕ) (h : ℕ → ℕ) where
     pub covers : (r : ℕ) → r < length m.cells → 0 < count r v
     pub inner_order : (c : ℕ) → c < length m.cells → filter (λ r. has_parent c (parent m.cells r)) v ≡ cells_in c m.cells
     pub cells : n.cells ≡ map new_cell v
-    pub atoms : n.atoms ≡ flat new_atoms v
+    pub atoms : n.atoms ≡ flat_map new_atoms v
 
   moved_none : (i j : ℕ) (as' : List (Node L)) → (i ≡ j → ⊥) → atoms_in j (map (again i) as') ≡ []
   moved_none i j [] e = refl
@@ -103,12 +91,11 @@ module _ {L : Type 0} (m n : Model L) (v : List ℕ) (h : ℕ → ℕ) where
   moved_all i [] = refl
   moved_all i (a ∷ ax) = cond-true (eqb i i) _ _ (eq-eqb i i refl) ∙ ap (λ t. again i a ∷ t) (moved_all i ax)
 
-  atoms_kept : (c : ℕ) (xs : List ℕ) → ((r : ℕ) → row r ≡ row c → r ≡ c) → (count c xs ≡ 0 → atoms_in (row c) (flat new_atoms xs) ≡ []) × (count c xs ≡ 1 → atoms_in (row c) (flat new_atoms xs) ≡ new_atoms c)
-  unfolding flat
+  atoms_kept : (c : ℕ) (xs : List ℕ) → ((r : ℕ) → row r ≡ row c → r ≡ c) → (count c xs ≡ 0 → atoms_in (row c) (flat_map new_atoms xs) ≡ []) × (count c xs ≡ 1 → atoms_in (row c) (flat_map new_atoms xs) ≡ new_atoms c)
   atoms_kept c [] inj = (λ z. refl, λ z. let e = count_none c in absurd (omega arith))
   atoms_kept c (x ∷ xs) inj =
       let ih = atoms_kept c xs inj in
-      let s = kept_append (λ (a : Node L). eqb a.cell (row c)) (new_atoms x) (flat new_atoms xs) in
+      let s = filter-append (λ (a : Node L). eqb a.cell (row c)) (new_atoms x) (flat_map new_atoms xs) in
       ⊎_elim
       (λ (e : c ≡ x).
       let l = count_here c x xs e in (
@@ -173,12 +160,12 @@ module _ {L : Type 0} (m n : Model L) (v : List ℕ) (h : ℕ → ℕ) where
         λ r q.
         ap₂ (λ a b. a ∷ b) (ap (λ (x : Cell). enter x.set) (cell_again r (w.covers r q.0)))
         (map-append f (walk d n (row r)) (leave ∷ []) ∙ (ap (λ t. t ++ (leave ∷ [])) (walked d r q.0) ∙ sym (map-append g (walk d m r) (leave ∷ [])))) in
-        let later : map f (flat (around n d) (cells_in (row c) n.cells)) ≡ map g (flat (around m d) rs) =
-        ap (λ xs. map f (flat (around n d) xs)) (cells_again c l)
-        ∙ (ap (map f) (flat_map (around n d) row rs)
+        let later : map f (flat_map (around n d) (cells_in (row c) n.cells)) ≡ map g (flat_map (around m d) rs) =
+        ap (λ xs. map f (flat_map (around n d) xs)) (cells_again c l)
+        ∙ (ap (map f) (flat_map-map (around n d) row rs)
         ∙ (map_flat f (λ r. around n d (row r)) rs
         ∙ (flat_alike (λ r. map f (around n d (row r))) (λ r. map g (around m d r)) rs (all_weaker (λ r. (r < length m.cells) × (parent m.cells r ≡ Some c)) (λ r. map f (around n d (row r)) ≡ map g (around m d r)) rs one (inner m.cells c))
         ∙ sym (map_flat g (around m d) rs)))) in
-        map-append f (map atom (atoms_in (row c) n.atoms)) (flat (around n d) (cells_in (row c) n.cells))
+        map-append f (map atom (atoms_in (row c) n.atoms)) (flat_map (around n d) (cells_in (row c) n.cells))
         ∙ (ap₂ (λ a b. a ++ b) first later
-        ∙ sym (map-append g (map atom (atoms_in c m.atoms)) (flat (around m d) rs)))
+        ∙ sym (map-append g (map atom (atoms_in c m.atoms)) (flat_map (around m d) rs)))

@@ -4,7 +4,8 @@ use Rattle.std.specs.List.{AllByRecursion as All}
 use Rattle.std.proofs.lemmas.Bool.{cases_eq, cases_lt, cond-false}
 use Rattle.plan.specs.declared.tables.Cell.{Cell}
 use Rattle.plan.specs.Sound.{count, leads}
-use Rattle.showing.specs.Walk.{flat, has_parent, cells_in}
+use Rattle.std.specs.List.{flat_map}
+use Rattle.showing.specs.Walk.{has_parent, cells_in}
 use Rattle.showing.specs.Shown.{place}
 use Rattle.showing.proofs.Visits.{parent, visits, visited_once, visits_within}
 use Rattle.showing.proofs.Freed.{count_later}
@@ -22,7 +23,7 @@ module _ (cells : List Cell) (top : parent cells 0 ≡ None) (some : 0 < length 
   abbrev pub order : List ℕ
   order = visits cells 17 0
 
-  first : (n c : ℕ) → visits cells (suc n) c ≡ c ∷ flat (visits cells n) (cells_in c cells)
+  first : (n c : ℕ) → visits cells (suc n) c ≡ c ∷ flat_map (visits cells n) (cells_in c cells)
   unfolding visits
   first n c = refl
 
@@ -50,4 +51,4 @@ module _ (cells : List Cell) (top : parent cells 0 ≡ None) (some : 0 < length 
       ∙ (below cells c 16 0 order_enough).1 (order_covers c l))
 
   pub order_first : place 0 order ≡ 0
-  order_first = ap (place 0) (first 16 0) ∙ place_past 0 [] (flat (visits cells 16) (cells_in 0 cells)) (count_none 0)
+  order_first = ap (place 0) (first 16 0) ∙ place_past 0 [] (flat_map (visits cells 16) (cells_in 0 cells)) (count_none 0)

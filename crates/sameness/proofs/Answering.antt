@@ -18,7 +18,7 @@ use Rattle.placing.proofs.KeepAtoms.{length_port}
 use Rattle.placing.proofs.KeepNames.{length_links}
 use Rattle.sameness.specs.Renaming.{free_by, node_by, renamed_by}
 use Rattle.sameness.specs.Keeping.{SameRoom}
-use Rattle.sameness.proofs.Lists.{kept_map}
+use Rattle.showing.proofs.Lists.{kept_map}
 use Rattle.sameness.proofs.Hanging.{opens_by}
 
 module _ {L : Type 0} where

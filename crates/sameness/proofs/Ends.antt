@@ -1,4 +1,7 @@
 -- Each link of a sound plan has just two ends.
+use Rattle.showing.proofs.Freed.{count_later}
+use Rattle.showing.proofs.Freed.{count_here}
+use Rattle.std.proofs.lemmas.Option.{slice_get_within}
 use Rattle.std.proofs.Common.{◌≡◌, ℕ, zero, suc, ◌+◌, ◌-◌, ◌<◌, ◌≤◌, cond, eqb, ltb, ◌⊎◌, List, [], ◌∷◌, ◌++◌, map, length, Some, None, sym, refl, ap, ◌∙◌, ap₂, inl, inr, ⊎_elim, arith, length-append}
 use Rattle.std.specs.List.{slice_get}
 use Rattle.std.proofs.lemmas.Bool.{cases_eq, cases_lt, cond-false, cond-true, eqb-true, le-ltb, lt-ltb}
@@ -31,14 +34,6 @@ none_has (y ∷ xs) x (suc n) c e = none_has xs x n (grind (arith, nat_tests)) e
 abbrev Once : List ℕ → ℕ → Type 0
 Once xs x = (i : ℕ) × (Has xs i x × ((n : ℕ) → Has xs n x → n ≡ i))
 
-count_here : (x y : ℕ) (xs : List ℕ) → x ≡ y → count x (y ∷ xs) ≡ suc (count x xs)
-unfolding count
-count_here x y xs e = grind (arith, nat_tests)
-
-count_past : (x y : ℕ) (xs : List ℕ) → (x ≡ y → ⊥) → count x (y ∷ xs) ≡ count x xs
-unfolding count
-count_past x y xs e = grind (arith, nat_tests)
-
 one_has : (xs : List ℕ) (x : ℕ) → count x xs ≡ 1 → Once xs x
 unfolding count
 one_has [] x c = absurd (omega arith)
@@ -48,7 +43,7 @@ one_has (y ∷ xs) x c =
     let left = count_here x y xs e in
     (0, (ap Some (sym e), no_more e (omega arith))))
     (λ (e : x ≡ y → ⊥).
-    let left = count_past x y xs e in
+    let left = count_later x y xs e in
     let at = one_has xs x (omega arith) in
     (suc at.0, (at.1.0, up e at.0 at.1.1)))
     (cases_eq x y)
@@ -74,7 +69,7 @@ two_has (y ∷ xs) x c =
     let at = one_has xs x (omega arith) in
     (0, (suc at.0, (omega arith, (ap Some (sym e), (at.1.0, first at.0 at.1.1))))))
     (λ (e : x ≡ y → ⊥).
-    let left = count_past x y xs e in
+    let left = count_later x y xs e in
     let at = two_has xs x (omega arith) in
     let low : at.0 < at.1.0 = at.1.1.0 in
     (suc at.0, (suc at.1.0, (omega arith, (at.1.1.1.0, (at.1.1.1.1.0, up e at.0 at.1.0 at.1.1.1.1.1))))))
@@ -89,11 +84,6 @@ two_has (y ∷ xs) x c =
     up e i j at (suc n) h = ⊎_elim (λ (a : n ≡ i). inl (ap suc a)) (λ (b : n ≡ j). inr (ap suc b)) (at n h)
 
 -- ** an end's place among the ends of the plan
-
-has_below : {A : Type 0} (xs : List A) (n : ℕ) (x : A) → slice_get xs n ≡ Some x → n < length xs
-has_below [] n x e = absurd (never x e)
-has_below (y ∷ xs) zero x e = omega arith
-has_below (y ∷ xs) (suc n) x e = let ih = has_below xs n x e in omega arith
 
 nth_left : {A : Type 0} (xs ys : List A) (n : ℕ) → n < length xs → slice_get (xs ++ ys) n ≡ slice_get xs n
 nth_left [] ys n h = absurd (omega arith)
@@ -128,14 +118,14 @@ module _ {L : Type 0} where
   place_has : (atoms : List (Node L)) (i j x : ℕ) → port_of j (slice_get atoms i) ≡ Some x → Has (port_links atoms) (place atoms i j) x
   unfolding port_links place
   place_has [] i j x e = absurd (never x e)
-  place_has (a ∷ atoms) zero j x e = nth_left a.links (port_links atoms) j (has_below a.links j x e) ∙ e
+  place_has (a ∷ atoms) zero j x e = nth_left a.links (port_links atoms) j (slice_get_within a.links j x e) ∙ e
   place_has (a ∷ atoms) (suc i) j x e = nth_right a.links (port_links atoms) (place atoms i j) ∙ place_has atoms i j x e
 
   row_of_place : (atoms : List (Node L)) (i j x : ℕ) → port_of j (slice_get atoms i) ≡ Some x → (row_at atoms (place atoms i j) ≡ i) × (port_at atoms (place atoms i j) ≡ j)
   unfolding place row_at port_at
   row_of_place [] i j x e = absurd (never x e)
   row_of_place (a ∷ atoms) zero j x e =
-      let t = lt-ltb j (length a.links) (has_below a.links j x e) in
+      let t = lt-ltb j (length a.links) (slice_get_within a.links j x e) in
       (cond-true (ltb j (length a.links)) 0 _ t, cond-true (ltb j (length a.links)) j _ t)
   row_of_place (a ∷ atoms) (suc i) j x e =
       let n = length a.links in
@@ -197,7 +187,7 @@ module _ {L : Type 0} where
     unfolding place_of ports
     place_lies (port i j) x h =
         let has = place_has m.atoms i j x h in
-        nth_left (port_links m.atoms) _ (place m.atoms i j) (has_below (port_links m.atoms) (place m.atoms i j) x has) ∙ has
+        nth_left (port_links m.atoms) _ (place m.atoms i j) (slice_get_within (port_links m.atoms) (place m.atoms i j) x has) ∙ has
     place_lies (free i) x h = nth_right (port_links m.atoms) (map (λ r. r.link) m.free) i ∙ free_has m.free i ∙ h
 
     end_place : (e : End) (x : ℕ) → link_at m e ≡ Some x → end_at (place_of e) ≡ e
@@ -205,7 +195,7 @@ module _ {L : Type 0} where
     end_place (port i j) x h =
         let atoms = m.atoms in
         let n = place atoms i j in
-        let t = lt-ltb n (length (port_links atoms)) (has_below (port_links atoms) n x (place_has atoms i j x h)) in
+        let t = lt-ltb n (length (port_links atoms)) (slice_get_within (port_links atoms) n x (place_has atoms i j x h)) in
         let both = row_of_place atoms i j x h in
         cond-true (ltb n (length (port_links atoms))) (port (row_at atoms n) (port_at atoms n)) (free (n - length (port_links atoms))) t ∙ ap₂ port both.0 both.1
     end_place (free i) x h =

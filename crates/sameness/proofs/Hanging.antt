@@ -1,8 +1,9 @@
 -- A text hung on a plan with its links renamed.
+use Rattle.placing.proofs.NamesOf.{has_row}
+use Rattle.std.specs.Prelude.{option_map}
 use Rattle.std.proofs.Common.{◌≡◌, ℕ, ◌+◌, ◌-◌, ◌<◌, ◌≤◌, true, false, cond, not, ◌&&◌, eqb, List, [], ◌∷◌, ◌++◌, map, length, is_some, Some, None, filter, Option, sym, refl, ap, ◌∙◌, subst, ap₂, ⊎_elim, arith}
 use Rattle.std.proofs.lemmas.List.{get_or-map, get_or_past, length-map, map-append}
 use Rattle.std.proofs.lemmas.Bool.{and_parts, both_ways, cases_lt}
-use Rattle.std.proofs.lemmas.Bool.Decides.{nat_tests}
 use Rattle.label.specs.Kind.{Kind}
 use Rattle.text.specs.declared.packed.Name.{Name}
 use Rattle.grammar.specs.declared.event.Event.{Event}
@@ -10,29 +11,23 @@ use Rattle.grammar.specs.declared.event.Event.TheVariants as events
 use Rattle.grammar.specs.declared.stand.Standing.{Standing}
 use Rattle.grammar.specs.Names.{position}
 use Rattle.grammar.specs.Reading.{Events, event, end, fault}
-use Rattle.grammar.specs.State.{times}
 use Rattle.plan.specs.declared.tables.FreeLink.{FreeLink}
 use Rattle.plan.specs.Model.{Model, Node}
 use Rattle.plan.specs.Sound.{count}
 use Rattle.placing.specs.Keeps.{OfText}
 use Rattle.placing.specs.Links.{closed, free_after, link_at, linked, links_from, open_link, opened, opens, stays}
-use Rattle.placing.specs.Orderly.{may_come, name_standings, orderly}
+use Rattle.grammar.specs.Events.{name_standings}
+use Rattle.placing.specs.Orderly.{may_come, orderly}
 use Rattle.placing.specs.Placing.{Placing, absorbed, become, begun, joined, parent_of, place_all, place_one, put, refreed, relinked, with_port, with_set}
 use Rattle.register.specs.Rows.{added}
 use Rattle.placing.proofs.KeepAbsorb.{become_rows, length_rows}
 use Rattle.placing.proofs.KeepNames.{length_links, newer, news}
 use Rattle.sameness.specs.Renaming.{free_by, node_by, renamed_by}
-use Rattle.sameness.specs.Reordering.{over}
 use Rattle.sameness.proofs.Renaming.{count_first, count_later}
-use Rattle.sameness.proofs.Lists.{kept_map}
+use Rattle.showing.proofs.Lists.{kept_map}
 use Rattle.sameness.proofs.Apart.{Apart, eqb_by}
 
 -- ** names that have rows
-
-times_row : (n : Name) (ss : List Standing) → 0 < times n ss → position n ss < length ss
-unfolding times position
-times_row n [] h = absurd (omega arith)
-times_row n (s ∷ ss) h = let ih = times_row n ss in grind (arith, nat_tests)
 
 module _ {L : Type 0} (k : Kind L) where
   -- links that agree on the names of the events place them alike
@@ -79,19 +74,19 @@ module _ {L : Type 0} (k : Kind L) where
 module _ (f : ℕ → ℕ) where
   -- ** links of names
 
-  open_by : (n : Name) (fs : List FreeLink) → open_link n (map (free_by f) fs) ≡ over f (open_link n fs)
+  open_by : (n : Name) (fs : List FreeLink) → open_link n (map (free_by f) fs) ≡ option_map f (open_link n fs)
   unfolding open_link
   open_by n [] = refl
   open_by n (r ∷ fs) =
       let ih = open_by n fs in
-      elim (eqb r.name.packed n.packed) as (λ b. cond b (Some (f r.link)) (open_link n (map (free_by f) fs)) ≡ over f (cond b (Some r.link) (open_link n fs))) [ true ↦ refl | false ↦ ih ]
+      elim (eqb r.name.packed n.packed) as (λ b. cond b (Some (f r.link)) (open_link n (map (free_by f) fs)) ≡ option_map f (cond b (Some r.link) (open_link n fs))) [ true ↦ refl | false ↦ ih ]
 
-  closed_by : (fs : List FreeLink) (s : Standing) → closed (map (free_by f) fs) s ≡ over f (closed fs s)
+  closed_by : (fs : List FreeLink) (s : Standing) → closed (map (free_by f) fs) s ≡ option_map f (closed fs s)
   closed_by fs s =
       let ih = open_by s.name fs in
-      elim s.twice as (λ b. cond b None (open_link s.name (map (free_by f) fs)) ≡ over f (cond b None (open_link s.name fs))) [ true ↦ refl | false ↦ ih ]
+      elim s.twice as (λ b. cond b None (open_link s.name (map (free_by f) fs)) ≡ option_map f (cond b None (open_link s.name fs))) [ true ↦ refl | false ↦ ih ]
 
-  linked_by : (o : Option ℕ) (numbers : List ℕ) (others others' taken : List ℕ → List ℕ) → ((left : List ℕ) → length (taken left) ≤ length left → others' (map f left) ≡ map f (others left)) → length (newer o numbers taken) ≤ length numbers → linked (over f o) (map f numbers) others' ≡ map f (linked o numbers others)
+  linked_by : (o : Option ℕ) (numbers : List ℕ) (others others' taken : List ℕ → List ℕ) → ((left : List ℕ) → length (taken left) ≤ length left → others' (map f left) ≡ map f (others left)) → length (newer o numbers taken) ≤ length numbers → linked (option_map f o) (map f numbers) others' ≡ map f (linked o numbers others)
   linked_by (Some x) numbers others others' taken ih l = ap (λ t. f x ∷ t) (ih numbers l)
   linked_by None [] others others' taken ih l = absurd (omega arith)
   linked_by None (u ∷ us) others others' taken ih l = ap (λ t. f u ∷ t) (ih us (omega arith))
@@ -105,7 +100,7 @@ module _ (f : ℕ → ℕ) where
 
   -- ** free links
 
-  some_over : (o : Option ℕ) → is_some (over f o) ≡ is_some o
+  some_over : (o : Option ℕ) → is_some (option_map f o) ≡ is_some o
   some_over None = refl
   some_over (Some x) = refl
 
@@ -302,7 +297,7 @@ module _ {L : Type 0} (k : Kind L) where
     unfolding links
     named n h =
         let told = t.told n in
-        let row = times_row n names (omega arith) in
+        let row = has_row n names (omega arith) in
         let long = length_links m.free numbers names in
         get_or-map f links (position n names) 0 0 (omega arith)
 

@@ -4,7 +4,6 @@ pub mod Ends
 pub mod Apart
 pub mod Sounding
 pub mod Showing
-pub mod Lists
 pub mod Hanging
 pub mod Fresh
 pub mod Answering

@@ -1,4 +1,6 @@
 -- Links renamed one to one: an equivalence.
+use Rattle.std.proofs.lemmas.List.{map-id}
+use Rattle.std.proofs.lemmas.Simd.{map-map}
 use Rattle.std.proofs.Common.{◌≡◌, ℕ, ◌<◌, cond, eqb, List, [], ◌∷◌, ◌++◌, map, sym, refl, ap, ◌∙◌, subst, ap₂, ⊎_elim, arith}
 use Rattle.std.proofs.lemmas.List.{map-append}
 use Rattle.std.proofs.lemmas.Bool.{cases_eq, cond-false, cond-true, eq-eqb, ne_eqb}
@@ -38,14 +40,6 @@ free_agree f g (r ∷ free) h =
     ap₂ (λ x rest. record { name = r.name; link = x } ∷ rest) (h r.link (count_first r.link (map (λ r. r.link) free)))
     (free_agree f g free (λ y s. h y (count_later y r.link (map (λ r. r.link) free) s)))
 
-pub map_twice : {A B C : Type 0} (g : B → C) (f : A → B) (xs : List A) → map g (map f xs) ≡ map (λ x. g (f x)) xs
-map_twice g f [] = refl
-map_twice g f (x ∷ xs) = ap (λ t. g (f x) ∷ t) (map_twice g f xs)
-
-pub map_same : (xs : List ℕ) → map (λ x. x) xs ≡ xs
-map_same [] = refl
-map_same (x ∷ xs) = ap (λ t. x ∷ t) (map_same xs)
-
 free_same : (free : List FreeLink) → map (free_by (λ x. x)) free ≡ free
 free_same [] = refl
 free_same (r ∷ free) = ap (λ t. r ∷ t) (free_same free)
@@ -63,16 +57,16 @@ module _ {L : Type 0} where
   nodes_twice : (g f : ℕ → ℕ) (atoms : List (Node L)) → map (node_by g) (map (node_by f) atoms) ≡ map (node_by (λ x. g (f x))) atoms
   nodes_twice g f [] = refl
   nodes_twice g f (a ∷ atoms) =
-      ap₂ (λ ls rest. record { label = a.label; cell = a.cell; links = ls } ∷ rest) (map_twice g f a.links) (nodes_twice g f atoms)
+      ap₂ (λ ls rest. record { label = a.label; cell = a.cell; links = ls } ∷ rest) (map-map g f a.links) (nodes_twice g f atoms)
 
   pub renamed_twice : (g f : ℕ → ℕ) (m : Model L) → renamed_by g (renamed_by f m) ≡ renamed_by (λ x. g (f x)) m
   renamed_twice g f m =
       ap₂ (λ atoms free. record { atoms = atoms; cells = m.cells; free = free; register = m.register })
-      (nodes_twice g f m.atoms) (map_twice (free_by g) (free_by f) m.free)
+      (nodes_twice g f m.atoms) (map-map (free_by g) (free_by f) m.free)
 
   nodes_same : (atoms : List (Node L)) → map (node_by (λ x. x)) atoms ≡ atoms
   nodes_same [] = refl
-  nodes_same (a ∷ atoms) = ap₂ (λ ls rest. record { label = a.label; cell = a.cell; links = ls } ∷ rest) (map_same a.links) (nodes_same atoms)
+  nodes_same (a ∷ atoms) = ap₂ (λ ls rest. record { label = a.label; cell = a.cell; links = ls } ∷ rest) (map-id a.links) (nodes_same atoms)
 
   pub renamed_same : (m : Model L) → renamed_by (λ x. x) m ≡ m
   renamed_same m =
@@ -87,7 +81,7 @@ module _ {L : Type 0} where
 
   pub ends_by : (f : ℕ → ℕ) (m : Model L) → ends (renamed_by f m) ≡ map f (ends m)
   ends_by f m =
-      ap₂ ◌++◌ (ports_by f m.atoms) (map_twice (λ r. r.link) (free_by f) m.free ∙ sym (map_twice f (λ r. r.link) m.free))
+      ap₂ ◌++◌ (ports_by f m.atoms) (map-map (λ r. r.link) (free_by f) m.free ∙ sym (map-map f (λ r. r.link) m.free))
       ∙ sym (map-append f (port_links m.atoms) (map (λ r. r.link) m.free))
 
 -- ** the way back

@@ -1,4 +1,8 @@
 -- Links renamed and rows in another order: an equivalence.
+use Rattle.std.proofs.lemmas.List.{map-id}
+use Rattle.std.proofs.lemmas.Simd.{map-map}
+use Rattle.std.proofs.lemmas.Option.{slice_get-map}
+use Rattle.std.specs.Prelude.{option_map}
 use Rattle.std.proofs.Common.{◌≡◌, ℕ, zero, suc, ◌<◌, ◌≤◌, ◌⊎◌, List, [], ◌∷◌, map, Some, None, Option, sym, refl, ap, ◌∙◌, subst, ap₂, inl, inr, ⊎_elim, arith}
 use Rattle.std.specs.List.{slice_get}
 use Rattle.std.proofs.lemmas.Bool.{cases_eq, cases_lt}
@@ -9,8 +13,8 @@ use Rattle.plan.specs.Model.{Model, Node}
 use Rattle.plan.specs.Sound.{count, ends, port_links}
 use Rattle.placing.proofs.KeepEach.{count_append}
 use Rattle.sameness.specs.Renaming.{OneToOne, Stands, free_by, node_by, renamed_by}
-use Rattle.sameness.specs.Reordering.{Renumbering, Reordered, ReorderedEquivalence, atom_by, cell_by, over}
-use Rattle.sameness.proofs.Renaming.{back, back_stands, count_first, count_later, map_agree, map_same, map_twice, renamed_same, stands_by, way_back}
+use Rattle.sameness.specs.Reordering.{Renumbering, Reordered, ReorderedEquivalence, atom_by, cell_by}
+use Rattle.sameness.proofs.Renaming.{back, back_stands, count_first, count_later, map_agree, renamed_same, stands_by, way_back}
 
 -- ** where a link stands
 
@@ -66,22 +70,17 @@ row_free (s ∷ free) zero r e =
     subst (λ (c : FreeLink). 0 < count c.link (free_links (s ∷ free))) same (count_first s.link (free_links free))
 row_free (s ∷ free) (suc i) r e = count_later r.link s.link (free_links free) (row_free free i r e)
 
-over_some : {A B : Type 0} (f : A → B) (o : Option A) (y : B) → over f o ≡ Some y → (x : A) × ((o ≡ Some x) × (f x ≡ y))
+over_some : {A B : Type 0} (f : A → B) (o : Option A) (y : B) → option_map f o ≡ Some y → (x : A) × ((o ≡ Some x) × (f x ≡ y))
 over_some f None y e = let z : ◌≡◌ {A = ℕ} 0 1 = cc in absurd (omega arith)
 over_some f (Some x) y e = (x, (refl, cc))
 
-over_twice : {A B C : Type 0} (g : B → C) (f : A → B) (h : A → C) (o : Option A) → ((x : A) → o ≡ Some x → g (f x) ≡ h x) → over g (over f o) ≡ over h o
+over_twice : {A B C : Type 0} (g : B → C) (f : A → B) (h : A → C) (o : Option A) → ((x : A) → o ≡ Some x → g (f x) ≡ h x) → option_map g (option_map f o) ≡ option_map h o
 over_twice g f h None e = refl
 over_twice g f h (Some x) e = ap Some (e x refl)
 
-over_same : {A : Type 0} (f : A → A) (o : Option A) → ((x : A) → o ≡ Some x → f x ≡ x) → over f o ≡ o
+over_same : {A : Type 0} (f : A → A) (o : Option A) → ((x : A) → o ≡ Some x → f x ≡ x) → option_map f o ≡ o
 over_same f None e = refl
 over_same f (Some x) e = ap Some (e x refl)
-
-nth_map : {A B : Type 0} (f : A → B) (xs : List A) (i : ℕ) → slice_get (map f xs) i ≡ over f (slice_get xs i)
-nth_map f [] i = refl
-nth_map f (x ∷ xs) zero = refl
-nth_map f (x ∷ xs) (suc i) = nth_map f xs i
 
 abbrev turn : Renumbering → Renumbering
 turn r = record { to = r.back; back = r.to; back_to = r.to_back; to_back = r.back_to }
@@ -143,11 +142,11 @@ module _ {L : Type 0} where
         ⊎_elim
         (λ (at : AtPort m.atoms x).
         port_stands n (r.link x) (r.atoms.to at.0) (atom_by r.cells.to r.link at.1.0)
-        (r.each_atom at.0 ∙ ap (over (atom_by r.cells.to r.link)) at.1.1.0)
+        (r.each_atom at.0 ∙ ap (option_map (atom_by r.cells.to r.link)) at.1.1.0)
         (stands_by r.link at.1.0.links x at.1.1.1))
         (λ (at : AtFree m.free x).
         subst (λ z. Stands n (r.link z)) at.1.1.1
-        (free_stands n (r.free.to at.0) (free_by r.link at.1.0) (r.each_free at.0 ∙ ap (over (free_by r.link)) at.1.1.0)))
+        (free_stands n (r.free.to at.0) (free_by r.link at.1.0) (r.each_free at.0 ∙ ap (option_map (free_by r.link)) at.1.1.0)))
         (stands_row m x h)
 
 -- ** the equivalence
@@ -180,20 +179,20 @@ module _ {L : Type 0} where
             let j = r.cells.back i in
             sym (over_twice (cell_by r.cells.back) (cell_by r.cells.to) (λ c. c) (slice_get m.cells j) (λ c e. cell_twice r.cells.back r.cells.to (λ i. i) c r.cells.back_to ∙ cell_same (λ i. i) c (λ i. refl))
             ∙ over_same (λ c. c) (slice_get m.cells j) (λ c e. refl))
-            ∙ ap (over (cell_by r.cells.back)) (sym (r.each_cell j) ∙ ap (slice_get n.cells) (r.cells.to_back i));
+            ∙ ap (option_map (cell_by r.cells.back)) (sym (r.each_cell j) ∙ ap (slice_get n.cells) (r.cells.to_back i));
         each_atom = λ i.
             let j = r.atoms.back i in
             sym (over_twice (atom_by r.cells.back g) (atom_by r.cells.to f) (λ a. a) (slice_get m.atoms j) (λ a e.
             ap₂ (λ c ls. record { label = a.label; cell = c; links = ls }) (r.cells.back_to a.cell)
-            (map_twice g f a.links ∙ map_agree (λ x. g (f x)) (λ x. x) a.links (λ x s. home x (port_stands m x j a e s)) ∙ map_same a.links))
+            (map-map g f a.links ∙ map_agree (λ x. g (f x)) (λ x. x) a.links (λ x s. home x (port_stands m x j a e s)) ∙ map-id a.links))
             ∙ over_same (λ a. a) (slice_get m.atoms j) (λ a e. refl))
-            ∙ ap (over (atom_by r.cells.back g)) (sym (r.each_atom j) ∙ ap (slice_get n.atoms) (r.atoms.to_back i));
+            ∙ ap (option_map (atom_by r.cells.back g)) (sym (r.each_atom j) ∙ ap (slice_get n.atoms) (r.atoms.to_back i));
         each_free = λ i.
             let j = r.free.back i in
             sym (over_twice (free_by g) (free_by f) (λ a. a) (slice_get m.free j) (λ a e.
             ap (λ (x : ℕ). record { name = a.name; link = x }) (home a.link (free_stands m j a e)))
             ∙ over_same (λ a. a) (slice_get m.free j) (λ a e. refl))
-            ∙ ap (over (free_by g)) (sym (r.each_free j) ∙ ap (slice_get n.free) (r.free.to_back i));
+            ∙ ap (option_map (free_by g)) (sym (r.each_free j) ∙ ap (slice_get n.free) (r.free.to_back i));
         register = sym r.register;
       }
 
@@ -207,14 +206,14 @@ module _ {L : Type 0} where
         atoms = then r.atoms s.atoms;
         free = then r.free s.free;
         each_cell = λ i.
-            s.each_cell (r.cells.to i) ∙ ap (over (cell_by s.cells.to)) (r.each_cell i)
+            s.each_cell (r.cells.to i) ∙ ap (option_map (cell_by s.cells.to)) (r.each_cell i)
             ∙ over_twice (cell_by s.cells.to) (cell_by r.cells.to) (cell_by (λ i. s.cells.to (r.cells.to i))) (slice_get m.cells i) (λ c e. cell_twice s.cells.to r.cells.to (λ i. s.cells.to (r.cells.to i)) c (λ i. refl));
         each_atom = λ i.
-            s.each_atom (r.atoms.to i) ∙ ap (over (atom_by s.cells.to s.link)) (r.each_atom i)
+            s.each_atom (r.atoms.to i) ∙ ap (option_map (atom_by s.cells.to s.link)) (r.each_atom i)
             ∙ over_twice (atom_by s.cells.to s.link) (atom_by r.cells.to r.link) (atom_by (λ i. s.cells.to (r.cells.to i)) (λ x. s.link (r.link x))) (slice_get m.atoms i) (λ a e.
-            ap (λ (ls : List ℕ). record { label = a.label; cell = s.cells.to (r.cells.to a.cell); links = ls }) (map_twice s.link r.link a.links));
+            ap (λ (ls : List ℕ). record { label = a.label; cell = s.cells.to (r.cells.to a.cell); links = ls }) (map-map s.link r.link a.links));
         each_free = λ i.
-            s.each_free (r.free.to i) ∙ ap (over (free_by s.link)) (r.each_free i)
+            s.each_free (r.free.to i) ∙ ap (option_map (free_by s.link)) (r.each_free i)
             ∙ over_twice (free_by s.link) (free_by r.link) (free_by (λ x. s.link (r.link x))) (slice_get m.free i) (λ a e. refl);
         register = s.register ∙ r.register;
       }
@@ -229,8 +228,8 @@ module _ {L : Type 0} where
         atoms = stay;
         free = stay;
         each_cell = λ i. sym (over_same (cell_by (λ i. i)) (slice_get m.cells i) (λ c e. cell_same (λ i. i) c (λ i. refl)));
-        each_atom = λ i. nth_map (node_by f) m.atoms i;
-        each_free = λ i. nth_map (free_by f) m.free i;
+        each_atom = λ i. slice_get-map (node_by f) m.atoms i;
+        each_free = λ i. slice_get-map (free_by f) m.free i;
         register = refl;
       }
 

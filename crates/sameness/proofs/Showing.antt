@@ -1,4 +1,9 @@
 -- Links renamed: a plan shows the same.
+use Rattle.std.proofs.lemmas.List.Elements.{filter_agree}
+use Rattle.std.proofs.lemmas.Simd.{map-map}
+use Rattle.std.proofs.lemmas.List.Folds.{flat_map-map}
+use Rattle.std.specs.Prelude.{option_map}
+use Rattle.std.specs.List.{find}
 use Rattle.std.proofs.Common.{◌≡◌, ℕ, zero, suc, true, false, cond, not, eqb, leb, List, [], ◌∷◌, ◌++◌, map, length, get_or, is_some, Some, Ok, Err, filter, sym, refl, ap, ◌∙◌, ap₂}
 use Rattle.std.proofs.lemmas.List.{length-map, map-append}
 use Rattle.fault.specs.declared.Refusal.TheVariants.{UnsoundPlan, ShortBuffer}
@@ -9,31 +14,20 @@ use Rattle.plan.specs.declared.tables.FreeLink.{FreeLink}
 use Rattle.plan.specs.Model.{Model, Node, model_of}
 use Rattle.plan.specs.Sound.{no_cell}
 use Rattle.showing.specs.declared.last.Last.TheVariants as last
-use Rattle.showing.specs.Walk.{Step, atom, enter, leave, atoms_in, cells_in, flat, walk, whole_walk}
+use Rattle.std.specs.List.{flat_map}
+use Rattle.showing.specs.Walk.{Step, atom, enter, leave, atoms_in, cells_in, walk, whole_walk}
 use Rattle.showing.specs.Text.{text_of}
 use Rattle.showing.specs.Shown.{firsts, joins, numbered, open_name, or_number, place, plan_events, shown, shown_name, step_events, step_links, tie, ties}
 use Rattle.sameness.specs.Renaming.{Renamed, free_by, node_by, renamed_by}
 use Rattle.sameness.specs.Keeping.{RenamingShown}
-use Rattle.sameness.proofs.Renaming.{map_twice}
-use Rattle.sameness.proofs.Lists.{kept_alike, kept_map}
+use Rattle.showing.proofs.Lists.{kept_map, map_flat}
 use Rattle.sameness.proofs.Apart.{Apart, all_apart, eqb_by}
 
 -- ** lists
 
-flat_alike : {A B : Type 0} (f g : A → List B) → ((x : A) → f x ≡ g x) → (xs : List A) → flat f xs ≡ flat g xs
-unfolding flat
+flat_alike : {A B : Type 0} (f g : A → List B) → ((x : A) → f x ≡ g x) → (xs : List A) → flat_map f xs ≡ flat_map g xs
 flat_alike f g h [] = refl
 flat_alike f g h (x ∷ xs) = ap₂ ◌++◌ (h x) (flat_alike f g h xs)
-
-flat_map : {A B C : Type 0} (f : B → List C) (g : A → B) (xs : List A) → flat f (map g xs) ≡ flat (λ x. f (g x)) xs
-unfolding flat
-flat_map f g [] = refl
-flat_map f g (x ∷ xs) = ap (λ t. f (g x) ++ t) (flat_map f g xs)
-
-map_flat : {A B C : Type 0} (f : B → C) (g : A → List B) (xs : List A) → map f (flat g xs) ≡ flat (λ x. map f (g x)) xs
-unfolding flat
-map_flat f g [] = refl
-map_flat f g (x ∷ xs) = map-append f (g x) (flat g xs) ∙ ap (λ t. map f (g x) ++ t) (map_flat f g xs)
 
 -- ** names of links
 
@@ -41,7 +35,14 @@ module _ (f : ℕ → ℕ) (apart : Apart f) where
   open_by : (x : ℕ) (fs : List FreeLink) → open_name (f x) (map (free_by f) fs) ≡ open_name x fs
   unfolding open_name
   open_by x [] = refl
-  open_by x (r ∷ fs) = ap₂ (λ b o. cond b (Some r.name) o) (eqb_by f apart r.link x) (open_by x fs)
+  open_by x (r ∷ fs) =
+      let new = find (λ (g : FreeLink). eqb g.link (f x)) (map (free_by f) fs) in
+      let old = find (λ (g : FreeLink). eqb g.link x) fs in
+      ap (λ b. option_map (λ (g : FreeLink). g.name) (cond b (Some (free_by f r)) new)) (eqb_by f apart r.link x)
+      ∙ elim (eqb r.link x) as (λ b. option_map (λ (g : FreeLink). g.name) (cond b (Some (free_by f r)) new) ≡ option_map (λ (g : FreeLink). g.name) (cond b (Some r) old)) [
+        | true ↦ refl
+        | false ↦ open_by x fs
+      ]
 
   place_by : (x : ℕ) (xs : List ℕ) → place (f x) (map f xs) ≡ place x xs
   unfolding place
@@ -69,7 +70,7 @@ module _ {L : Type 0} (f : ℕ → ℕ) where
   atoms_in_by : (c : ℕ) (atoms : List (Node L)) → map atom (atoms_in c (map (node_by f) atoms)) ≡ map (step_by f) (map atom (atoms_in c atoms))
   atoms_in_by c atoms =
       ap (map atom) (kept_map (λ a. eqb a.cell c) (node_by f) atoms)
-      ∙ map_twice atom (node_by f) (atoms_in c atoms) ∙ sym (map_twice (step_by f) atom (atoms_in c atoms))
+      ∙ map-map atom (node_by f) (atoms_in c atoms) ∙ sym (map-map (step_by f) atom (atoms_in c atoms))
 
   walk_by : (n : ℕ) (m : Model L) (c : ℕ) → walk n (renamed_by f m) c ≡ map (step_by f) (walk n m c)
   unfolding walk
@@ -80,7 +81,7 @@ module _ {L : Type 0} (f : ℕ → ℕ) where
       ap₂ ◌++◌ (atoms_in_by c m.atoms)
       (flat_alike h (λ r. map (step_by f) (g r)) (λ r. ap (λ t. enter (get_or m.cells r no_cell).set ∷ t) (ap (λ t. t ++ (leave ∷ [])) (walk_by n m r) ∙ sym (map-append (step_by f) (walk n m r) (leave ∷ [])))) (cells_in c m.cells)
       ∙ sym (map_flat (step_by f) g (cells_in c m.cells)))
-      ∙ sym (map-append (step_by f) (map atom (atoms_in c m.atoms)) (flat g (cells_in c m.cells)))
+      ∙ sym (map-append (step_by f) (map atom (atoms_in c m.atoms)) (flat_map g (cells_in c m.cells)))
 
   step_links_by : (s : Step L) → step_links (step_by f s) ≡ map f (step_links s)
   step_links_by (atom a) = refl
@@ -97,20 +98,20 @@ module _ {L : Type 0} (f : ℕ → ℕ) where
       walked : whole_walk (renamed_by f m) ≡ map (step_by f) (whole_walk m)
       walked = walk_by 17 m 0
 
-      links_by : flat step_links (whole_walk (renamed_by f m)) ≡ map f (flat step_links (whole_walk m))
+      links_by : flat_map step_links (whole_walk (renamed_by f m)) ≡ map f (flat_map step_links (whole_walk m))
       links_by =
-          ap (flat step_links) walked ∙ flat_map step_links (step_by f) (whole_walk m)
+          ap (flat_map step_links) walked ∙ flat_map-map step_links (step_by f) (whole_walk m)
           ∙ flat_alike (λ s. step_links (step_by f s)) (λ s. map f (step_links s)) step_links_by (whole_walk m)
           ∙ sym (map_flat f step_links (whole_walk m))
 
       numbered_by : numbered (renamed_by f m) ≡ map f (numbered m)
       unfolding numbered
       numbered_by =
-          let all = flat step_links (whole_walk m) in
+          let all = flat_map step_links (whole_walk m) in
           let test = λ (x : ℕ). not (is_some (open_name x m.free)) in
           let test' = λ (x : ℕ). not (is_some (open_name x (map (free_by f) m.free))) in
           ap (λ t. firsts [] (filter test' t)) links_by
-          ∙ ap (firsts []) (kept_map test' f all ∙ ap (map f) (kept_alike (λ x. test' (f x)) test (λ x. ap (λ o. not (is_some o)) (open_by f apart x m.free)) all))
+          ∙ ap (firsts []) (kept_map test' f all ∙ ap (map f) (filter_agree (λ x. test' (f x)) test (λ x. ap (λ o. not (is_some o)) (open_by f apart x m.free)) all))
           ∙ firsts_by f apart [] (filter test all)
 
       name_by : (x : ℕ) → shown_name (renamed_by f m) (f x) ≡ shown_name m x
@@ -128,8 +129,8 @@ module _ {L : Type 0} (f : ℕ → ℕ) where
       events_by : plan_events (renamed_by f m) ≡ plan_events m
       events_by =
           ap₂ ◌++◌
-          (ap (flat (step_events (shown_name (renamed_by f m)))) walked
-          ∙ flat_map (step_events (shown_name (renamed_by f m))) (step_by f) (whole_walk m)
+          (ap (flat_map (step_events (shown_name (renamed_by f m)))) walked
+          ∙ flat_map-map (step_events (shown_name (renamed_by f m))) (step_by f) (whole_walk m)
           ∙ flat_alike (λ s. step_events (shown_name (renamed_by f m)) (step_by f s)) (step_events (shown_name m)) step_by_events (whole_walk m))
           (ties_by m.free)
 

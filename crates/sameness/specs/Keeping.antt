@@ -6,7 +6,8 @@ use Rattle.grammar.specs.Laws.{fault_of}
 use Rattle.grammar.specs.Reading.{Events, hang_events}
 use Rattle.plan.specs.declared.tables.Plan.{Plan}
 use Rattle.plan.specs.Model.{Model, model_of}
-use Rattle.plan.specs.Sound.{atom_limit, each, ends, free_limit, link_limit}
+use Rattle.std.specs.List.{list_all}
+use Rattle.plan.specs.Sound.{atom_limit, ends, free_limit, link_limit}
 use Rattle.plan.specs.Tests.{sound_test}
 use Rattle.placing.specs.Answer.{hang_answer, hung_text}
 use Rattle.placing.specs.Keeps.{OfText, SoundModel}
@@ -16,7 +17,7 @@ use Rattle.sameness.specs.Renaming.{Renamed}
 
 -- a sound plan stays sound, where the new numbers are in the limit
 abbrev pub RenamingSound : {L : Type 0} → Kind L → Type 0
-RenamingSound k = (m n : Model _) → SoundModel k m → Renamed m n → each (λ x. nat_lt x link_limit) (ends n) ≡ true → SoundModel k n
+RenamingSound k = (m n : Model _) → SoundModel k m → Renamed m n → list_all (λ x. nat_lt x link_limit) (ends n) ≡ true → SoundModel k n
 
 pub record RenamingShown {L : Type 0} (k : Kind L) : Type 0 where
   -- its text stays the same

@@ -1,5 +1,5 @@
 -- Plans that are the same but for the numbers of their links and the order of their rows.
-use Rattle.std.specs.Prelude.{◌≡◌, ℕ, map, Some, None, Option}
+use Rattle.std.specs.Prelude.{◌≡◌, ℕ, map, option_map}
 use Rattle.std.specs.List.{slice_get}
 use Rattle.plan.specs.declared.tables.Cell.{Cell}
 use Rattle.plan.specs.Model.{Model, Node}
@@ -12,14 +12,9 @@ pub record Renumbering : Type 0 where
   pub back_to : (i : ℕ) → back (to i) ≡ i
   pub to_back : (i : ℕ) → to (back i) ≡ i
 
--- of a row that is there
-abbrev pub over : {A B : Type 0} → (A → B) → Option A → Option B
-over f None = None
-over f (Some x) = Some (f x)
-
 -- a cell where rows of cells are renumbered
 abbrev pub cell_by : (ℕ → ℕ) → Cell → Cell
-cell_by r c = record { parent = over r c.parent; set = c.set }
+cell_by r c = record { parent = option_map r c.parent; set = c.set }
 
 -- an atom where these are, and links renamed
 abbrev pub atom_by : {L : Type 0} → (ℕ → ℕ) → (ℕ → ℕ) → Node L → Node L
@@ -33,9 +28,9 @@ pub record Reordered {L : Type 0} (m m' : Model L) : Type 0 where
   pub root : cells.to 0 ≡ 0
   pub atoms : Renumbering
   pub free : Renumbering
-  pub each_cell : (i : ℕ) → slice_get m'.cells (cells.to i) ≡ over (cell_by cells.to) (slice_get m.cells i)
-  pub each_atom : (i : ℕ) → slice_get m'.atoms (atoms.to i) ≡ over (atom_by cells.to link) (slice_get m.atoms i)
-  pub each_free : (i : ℕ) → slice_get m'.free (free.to i) ≡ over (free_by link) (slice_get m.free i)
+  pub each_cell : (i : ℕ) → slice_get m'.cells (cells.to i) ≡ option_map (cell_by cells.to) (slice_get m.cells i)
+  pub each_atom : (i : ℕ) → slice_get m'.atoms (atoms.to i) ≡ option_map (atom_by cells.to link) (slice_get m.atoms i)
+  pub each_free : (i : ℕ) → slice_get m'.free (free.to i) ≡ option_map (free_by link) (slice_get m.free i)
   pub register : m'.register ≡ m.register
 
 pub record ReorderedEquivalence (L : Type 0) : Type 0 where

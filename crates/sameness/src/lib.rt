@@ -9,43 +9,31 @@ ghost use Rattle.sameness.specs.Reordering.{ReorderedEquivalence};
 use label::kind::Label;
 
 /// To be the same but for links is an equivalence of plans.
-pub fn renaming_stands<L: Label>() -> u8
+pub fn renaming_stands<L: Label>()
     ensures { RenamedEquivalence L }
-{
-    0
-}
+{}
 
 /// To be the same but for links and the order of rows is an equivalence of plans, wider than to be the same but for links.
-pub fn reordering_stands<L: Label>() -> u8
+pub fn reordering_stands<L: Label>()
     ensures { ReorderedEquivalence L }
-{
-    0
-}
+{}
 
 /// On a sound plan every link has two ends, each a port of an atom or a free link, and no third.
-pub fn ends_stand<L: Label>() -> u8
+pub fn ends_stand<L: Label>()
     ensures { LinksPaired L.kind }
-{
-    0
-}
+{}
 
 /// A sound plan stays sound where its links are renamed within the limit.
-pub fn sound_renamed<L: Label>() -> u8
+pub fn sound_renamed<L: Label>()
     ensures { RenamingSound L.kind }
-{
-    0
-}
+{}
 
 /// Plans that are the same but for links show the same text, and get the same answer from show.
-pub fn shown_renamed<L: Label>() -> u8
+pub fn shown_renamed<L: Label>()
     ensures { RenamingShown L.kind }
-{
-    0
-}
+{}
 
 /// Sound plans that are the same but for links are so after a text is hung on them, and get the same answer from hang.
-pub fn hung_renamed<L: Label>() -> u8
+pub fn hung_renamed<L: Label>()
     ensures { RenamingHung L.kind }
-{
-    0
-}
+{}

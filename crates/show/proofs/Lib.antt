@@ -1,5 +1,3 @@
-pub mod Folds
-pub mod Inks
 pub mod Cuts
 pub mod Linking
 pub mod Walks

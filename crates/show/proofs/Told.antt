@@ -1,19 +1,16 @@
 -- The numbers in the table are those of the definition.
-use Rattle.std.proofs.Common.{◌≡◌, ℕ, zero, suc, ◌+◌, ◌<◌, ◌≤◌, true, false, cond, ◌&&◌, eqb, ltb, List, [], ◌∷◌, ◌++◌, length, get_or, set, replicate, sym, refl, ap, ◌∙◌, subst, ⊎_elim, append_assoc, append-nil, arith, length-set}
+use Rattle.showing.proofs.Named.{joined_new}
+use Rattle.showing.proofs.Named.{place_most}
+use Rattle.std.proofs.Common.{◌≡◌, ℕ, zero, suc, ◌+◌, ◌<◌, ◌≤◌, true, false, cond, eqb, ltb, List, [], ◌∷◌, ◌++◌, length, get_or, set, replicate, is_some, Some, None, Option, sym, refl, ap, ◌∙◌, subst, ⊎_elim, append_assoc, append-nil, arith, length-set}
 use Rattle.std.proofs.lemmas.List.{get_or-set_same, get_or-set_other, get_or-replicate, length_push, length-replicate}
-use Rattle.std.proofs.lemmas.Bool.{and_left, cases_eq, cases_lt, cond-true, cond-false, eq-eqb, ne_eqb, lt-ltb, le-ltb}
+use Rattle.std.proofs.lemmas.Bool.{cases_eq, cases_lt, cond-true, cond-false, eq-eqb, ne_eqb, lt-ltb, le-ltb}
 use Rattle.std.proofs.lemmas.Bool.Decides.{nat_tests}
 use Rattle.showing.specs.Shown.{place, joins, firsts}
 use Rattle.show.specs.Page.{Numbers}
-use Rattle.show.specs.Steps.{next_to, none}
+use Rattle.show.specs.Steps.{next_to}
 use Rattle.show.proofs.Linking.{next_given, next_kept}
 
 -- places in a list
-place_within : (x : ℕ) (xs : List ℕ) → place x xs ≤ length xs
-unfolding place
-place_within x [] = omega arith
-place_within x (y ∷ ys) = let ih = place_within x ys in grind (arith, nat_tests)
-
 place_front : (x : ℕ) (xs ys : List ℕ) → place x xs < length xs → place x (xs ++ ys) ≡ place x xs
 unfolding place
 place_front x [] ys h = absurd (omega arith)
@@ -30,71 +27,63 @@ place_past y x [] n h = grind (arith, nat_tests)
 place_past y x (z ∷ xs) n h = let ih = place_past y x xs n in grind (arith, nat_tests)
 
 -- how many links have no number
-unfoldable pub nones : List ℕ → ℕ
+unfoldable pub nones : List (Option ℕ) → ℕ
 nones [] = 0
-nones (n ∷ ns) = cond (eqb n none) (suc (nones ns)) (nones ns)
+nones (o ∷ os) = cond (is_some o) (nones os) (suc (nones os))
 
-nones_some : (t : List ℕ) (x : ℕ) → x < length t → get_or t x none ≡ none → 0 < nones t
+nones_less : (t : List (Option ℕ)) (x v : ℕ) → x < length t → get_or t x None ≡ None → nones (set t x (Some v)) + 1 ≡ nones t
 unfolding nones
-nones_some [] x h e = absurd (omega arith)
-nones_some (n ∷ t) zero h e = grind (arith, nat_tests)
-nones_some (n ∷ t) (suc x) h e = let ih = nones_some t x in grind (arith, nat_tests)
+nones_less [] x v h e = absurd (omega arith)
+nones_less (o ∷ t) zero v h e = grind arith
+nones_less (o ∷ t) (suc x) v h e = let ih = nones_less t x v in grind (arith, nat_tests)
 
-nones_less : (t : List ℕ) (x v : ℕ) → x < length t → get_or t x none ≡ none → v < none → nones (set t x v) + 1 ≡ nones t
-unfolding nones
-nones_less [] x v h e l = absurd (omega arith)
-nones_less (n ∷ t) zero v h e l = grind (arith, nat_tests)
-nones_less (n ∷ t) (suc x) v h e l = let ih = nones_less t x v in grind (arith, nat_tests)
-
-nones_all : (n : ℕ) → nones (replicate n none) ≡ n
+nones_all : (n : ℕ) → nones (replicate n None) ≡ n
 unfolding nones
 nones_all zero = refl
 nones_all (suc n) = ap suc (nones_all n)
 
--- the table has the links of a list, each at its place there
+-- the table has the links of a list, each with its place there
 pub record Told (n : Numbers) (xs : List ℕ) : Type 0 where
   pub size : length n.table ≡ 8256
   pub count : n.count ≡ length xs
-  pub told : (x : ℕ) → x < 8256 → get_or n.table x none ≡ cond (ltb (place x xs) (length xs)) (place x xs) none
+  pub told : (x : ℕ) → x < 8256 → get_or n.table x None ≡ cond (ltb (place x xs) (length xs)) (Some (place x xs)) None
   pub left : nones n.table + length xs ≡ 8256
 
-pub told_none : Told (record { table = replicate 8256 none; count = 0 }) []
+pub told_none : Told (record { table = replicate 8256 None; count = 0 }) []
 unfolding place
 told_none = record {
-  size = length-replicate 8256 none;
+  size = length-replicate {A = Option ℕ} 8256 None;
   count = refl;
-  told = λ x h. get_or-replicate 8256 x none none h;
+  told = λ x h. get_or-replicate 8256 x None None h;
   left = omega (arith, nones_all 8256);
 }
 
 -- one link more
 told_new : (n : Numbers) (xs : List ℕ) (x : ℕ) → Told n xs → x < 8256 → place x xs ≡ length xs → Told (next_to n x) (xs ++ (x ∷ []))
 told_new n xs x t h e =
-    let blank : get_or n.table x none ≡ none = t.told x h ∙ cond-false (ltb (place x xs) (length xs)) _ _ (le-ltb _ _ (omega arith)) in
+    let blank : get_or n.table x None ≡ None = t.told x h ∙ cond-false (ltb (place x xs) (length xs)) _ _ (le-ltb _ _ (omega arith)) in
     let in' : x < length n.table = omega (arith, t.size) in
-    let some = nones_some n.table x in' blank in
-    let few : n.count < none = omega (arith, t.left, t.count) in
-    let less = nones_less n.table x n.count in' blank few in
+    let less = nones_less n.table x n.count in' blank in
     let l : length (xs ++ (x ∷ [])) ≡ length xs + 1 = length_push xs x in
     let Is : Numbers → Type 0 = λ m. Told m (xs ++ (x ∷ [])) in
-    subst Is (sym (next_given n x in' blank few))
+    subst Is (sym (next_given n x in' blank))
     (record {
-      size = length-set n.table x n.count ∙ t.size;
-      count = omega (arith, t.count);
+      size = length-set n.table x (Some n.count) ∙ t.size;
+      count = omega (arith, t.left, t.count);
       told = λ y k. ⊎_elim
           (λ (s : y ≡ x).
           let p : place x (xs ++ (x ∷ [])) ≡ length xs = place_last x xs e in
-          let g : get_or (set n.table x n.count) x none ≡ n.count = get_or-set_same n.table x n.count none in' in
-          let At : ℕ → Type 0 = λ z. get_or (set n.table x n.count) z none ≡ cond (ltb (place z (xs ++ (x ∷ []))) (length (xs ++ (x ∷ [])))) (place z (xs ++ (x ∷ []))) none in
-          subst At (sym s) (g ∙ t.count ∙ sym p ∙ sym (cond-true (ltb (place x (xs ++ (x ∷ []))) (length (xs ++ (x ∷ [])))) _ _ (lt-ltb _ _ (omega arith)))))
+          let g : get_or (set n.table x (Some n.count)) x None ≡ Some n.count = get_or-set_same n.table x (Some n.count) None in' in
+          let At : ℕ → Type 0 = λ z. get_or (set n.table x (Some n.count)) z None ≡ cond (ltb (place z (xs ++ (x ∷ []))) (length (xs ++ (x ∷ [])))) (Some (place z (xs ++ (x ∷ [])))) None in
+          subst At (sym s) (g ∙ ap Some (t.count ∙ sym p) ∙ sym (cond-true (ltb (place x (xs ++ (x ∷ []))) (length (xs ++ (x ∷ [])))) _ _ (lt-ltb _ _ (omega arith)))))
           (λ (s : y ≡ x → ⊥).
-          let g : get_or (set n.table x n.count) y none ≡ get_or n.table y none = get_or-set_other n.table x y n.count none s in
-          let w = place_within y xs in
+          let g : get_or (set n.table x (Some n.count)) y None ≡ get_or n.table y None = get_or-set_other n.table x y (Some n.count) None s in
+          let w = place_most y xs in
           let old = t.told y k in
           ⊎_elim
           (λ (r : place y xs < length xs).
           let p = place_front y xs (x ∷ []) r in
-          g ∙ old ∙ cond-true (ltb (place y xs) (length xs)) _ _ (lt-ltb _ _ r) ∙ sym p
+          g ∙ old ∙ cond-true (ltb (place y xs) (length xs)) _ _ (lt-ltb _ _ r) ∙ ap Some (sym p)
           ∙ sym (cond-true (ltb (place y (xs ++ (x ∷ []))) (length (xs ++ (x ∷ [])))) _ _ (lt-ltb _ _ (omega arith))))
           (λ (r : length xs ≤ place y xs).
           let p = place_past y x xs s (omega arith) in
@@ -107,15 +96,13 @@ told_new n xs x t h e =
 
 told_old : (n : Numbers) (xs : List ℕ) (x : ℕ) → Told n xs → x < 8256 → place x xs < length xs → Told (next_to n x) xs
 told_old n xs x t h e =
-    let at : get_or n.table x none ≡ place x xs = t.told x h ∙ cond-true (ltb (place x xs) (length xs)) _ _ (lt-ltb _ _ e) in
-    let few : place x xs < none = omega (arith, t.left) in
-    let kept : (eqb (get_or n.table x none) none && ltb n.count none) ≡ false = and_left (eqb (get_or n.table x none) none) _ (ne_eqb _ _ (omega arith)) in
+    let at : get_or n.table x None ≡ Some (place x xs) = t.told x h ∙ cond-true (ltb (place x xs) (length xs)) _ _ (lt-ltb _ _ e) in
     let Is : Numbers → Type 0 = λ m. Told m xs in
-    subst Is (sym (next_kept n x kept)) t
+    subst Is (sym (next_kept n x (place x xs) at)) t
 
 pub told_more : (n : Numbers) (xs : List ℕ) (x : ℕ) → Told n xs → x < 8256 → Told (next_to n x) (joins xs x)
 told_more n xs x t h =
-    let w = place_within x xs in
+    let w = place_most x xs in
     let Is : List ℕ → Type 0 = Told (next_to n x) in
     ⊎_elim
     (λ (r : place x xs < length xs). subst Is (sym (cond-false (eqb (place x xs) (length xs)) _ _ (ne_eqb _ _ (omega arith)))) (told_old n xs x t h r))
@@ -125,19 +112,6 @@ told_more n xs x t h =
     (cases_lt (place x xs) (length xs))
 
 -- a link stands where it joined
-joined_in : (x : ℕ) (xs : List ℕ) → place x (joins xs x) < length (joins xs x)
-joined_in x xs =
-    let w = place_within x xs in
-    let Is : List ℕ → Type 0 = λ ys. place x ys < length ys in
-    ⊎_elim
-    (λ (r : place x xs < length xs). subst Is (sym (cond-false (eqb (place x xs) (length xs)) _ _ (ne_eqb _ _ (omega arith)))) r)
-    (λ (r : length xs ≤ place x xs).
-    let e : place x xs ≡ length xs = omega arith in
-    let p = place_last x xs e in
-    let l = length_push xs x in
-    subst Is (sym (cond-true (eqb (place x xs) (length xs)) _ _ (eq-eqb _ _ e))) (omega arith))
-    (cases_lt (place x xs) (length xs))
-
 -- what is listed stays, and more comes after it
 joins_on : (xs : List ℕ) (x : ℕ) → (zs : List ℕ) × (joins xs x ≡ xs ++ zs)
 joins_on xs x =
@@ -156,9 +130,9 @@ unfolding firsts
 firsts_next xs ys x = refl
 
 -- the number in the table is the place among all links
-pub told_place : (n : Numbers) (xs ys : List ℕ) (x : ℕ) → Told n xs → x < 8256 → get_or (next_to n x).table x none ≡ place x (firsts (joins xs x) ys)
+pub told_place : (n : Numbers) (xs ys : List ℕ) (x : ℕ) → Told n xs → x < 8256 → get_or (next_to n x).table x None ≡ Some (place x (firsts (joins xs x) ys))
 told_place n xs ys x t h =
     let all = firsts_on ys (joins xs x) in
-    let r = joined_in x xs in
+    let r = joined_new x xs in
     (told_more n xs x t h).told x h ∙ cond-true (ltb (place x (joins xs x)) (length (joins xs x))) _ _ (lt-ltb _ _ r)
-    ∙ sym (place_front x (joins xs x) all.0 r) ∙ ap (place x) (sym all.1)
+    ∙ ap Some (sym (place_front x (joins xs x) all.0 r) ∙ ap (place x) (sym all.1))

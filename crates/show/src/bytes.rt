@@ -4,28 +4,25 @@ ghost use Rattle.show.specs.Page.{page_of, wrote};
 
 use crate::scribe::Scribe;
 
-/// Writes a byte.
-fn put(scribe: &mut Scribe<'_>, byte: u8)
-    ensures { page_of scribe.new ≡ wrote (byte ∷ []) (page_of scribe.old) }
-{
-    let at = scribe.len;
-    if at < scribe.most {
-        if at < scribe.out.len() {
-            scribe.out[at] = byte;
+impl Scribe<'_> {
+    /// Writes a byte.
+    #[tactic(auto, using(std::proofs::lemmas::List::set_past), unfolding(crate::specs::Page::inked))]
+    fn put(&mut self, byte: u8)
+        ensures { page_of self.new ≡ wrote (byte ∷ []) (page_of self.old) }
+    {
+        if self.len < self.out.len() {
+            self.out[self.len] = byte;
         }
-        scribe.len = at + 1;
-    } else {
-        scribe.over = true;
+        self.len = self.len.saturating_add(1);
     }
-}
 
-/// Writes bytes.
-pub(crate) fn put_all(scribe: &mut Scribe<'_>, bytes: &[u8])
-    ensures { page_of scribe.new ≡ wrote bytes.now (page_of scribe.old) }
-{
-    let mut rest = bytes;
-    while let [byte, after @ ..] = rest {
-        put(scribe, *byte);
-        rest = after;
+    /// Writes bytes.
+    #[tactic(auto, using(std::proofs::lemmas::List::Sums::fold_more))]
+    pub(crate) fn put_all(&mut self, bytes: &[u8])
+        ensures { page_of self.new ≡ wrote bytes.now (page_of self.old) }
+    {
+        for byte in bytes {
+            self.put(*byte);
+        }
     }
 }

@@ -3,9 +3,7 @@ ghost use Rattle.std.specs.Prelude.{◌≡◌};
 ghost use Rattle.showing.specs.Text as text;
 ghost use Rattle.show.specs.Page.{page_of, wrote, event_written, ended};
 
-use crate::bytes::put_all;
 use crate::scribe::Scribe;
-use crate::tokens::{put_label, put_name, put_set};
 use grammar::event::Event;
 use label::kind::Label;
 use showing::last::Last;
@@ -16,9 +14,8 @@ fn before_item(last: Last) -> &'static [u8]
 {
     match last {
         Last::Nothing => b"",
-        Last::Label => b",",
         Last::Port => b"),",
-        Last::Item => b",",
+        Last::Label | Last::Item => b",",
     }
 }
 
@@ -27,10 +24,8 @@ fn before_port(last: Last) -> &'static [u8]
     ensures { result.now ≡ text.before_port last }
 {
     match last {
-        Last::Nothing => b"(",
-        Last::Label => b"(",
         Last::Port => b",",
-        Last::Item => b"(",
+        Last::Nothing | Last::Label | Last::Item => b"(",
     }
 }
 
@@ -40,9 +35,7 @@ fn at_end(last: Last) -> &'static [u8]
 {
     match last {
         Last::Port => b")",
-        Last::Nothing => b"",
-        Last::Label => b"",
-        Last::Item => b"",
+        Last::Nothing | Last::Label | Last::Item => b"",
     }
 }
 
@@ -70,34 +63,36 @@ fn past<L: Label>(event: Event<L>) -> Last
     }
 }
 
-/// Writes an event's own bytes.
-fn put_own<L: Label>(scribe: &mut Scribe<'_>, event: Event<L>)
-    ensures { page_of scribe.new ≡ wrote (text.own L.Label.kind event) (page_of scribe.old) }
-{
-    match event {
-        Event::Label(label) => put_label(scribe, label),
-        Event::Port(name) | Event::First(name) | Event::Second(name) => put_name(scribe, name),
-        Event::Enter => put_all(scribe, b"{"),
-        Event::Leave => put_all(scribe, b"}"),
-        Event::Set(set) => {
-            put_all(scribe, b"@");
-            put_set(scribe, set);
+impl Scribe<'_> {
+    /// Writes an event's own bytes.
+    fn put_own<L: Label>(&mut self, event: Event<L>)
+        ensures { page_of self.new ≡ wrote (text.own L.Label.kind event) (page_of self.old) }
+    {
+        match event {
+            Event::Label(label) => self.put_label(label),
+            Event::Port(name) | Event::First(name) | Event::Second(name) => self.put_name(name),
+            Event::Enter => self.put_all(b"{"),
+            Event::Leave => self.put_all(b"}"),
+            Event::Set(set) => {
+                self.put_all(b"@");
+                self.put_set(set);
+            }
         }
     }
-}
 
-/// Writes an event.
-pub(crate) fn put_event<L: Label>(scribe: &mut Scribe<'_>, event: Event<L>)
-    ensures { page_of scribe.new ≡ event_written L.Label.kind (page_of scribe.old) event }
-{
-    put_all(scribe, lead(scribe.last, event));
-    put_own(scribe, event);
-    scribe.last = past(event);
-}
+    /// Writes an event.
+    pub(crate) fn put_event<L: Label>(&mut self, event: Event<L>)
+        ensures { page_of self.new ≡ event_written L.Label.kind (page_of self.old) event }
+    {
+        self.put_all(lead(self.last, event));
+        self.put_own(event);
+        self.last = past(event);
+    }
 
-/// Ends the text.
-pub(crate) fn put_end(scribe: &mut Scribe<'_>)
-    ensures { page_of scribe.new ≡ ended (page_of scribe.old) }
-{
-    put_all(scribe, at_end(scribe.last));
+    /// Ends the text.
+    pub(crate) fn put_end(&mut self)
+        ensures { page_of self.new ≡ ended (page_of self.old) }
+    {
+        self.put_all(at_end(self.last));
+    }
 }

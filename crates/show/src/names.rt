@@ -1,11 +1,10 @@
 //! The names of links, and what is written of them.
 ghost use Rattle.std.specs.Prelude.{◌≡◌, fold};
-ghost use Rattle.showing.specs.Shown.{open_name, ties};
-ghost use Rattle.show.specs.Page.{page_of, event_written};
-ghost use Rattle.show.specs.Steps.{with_number, number_of, port_written};
+ghost use Rattle.showing.specs.Shown.{open_name};
+ghost use Rattle.show.specs.Page.{page_of};
+ghost use Rattle.show.specs.Steps.{named_on, named_as, number_in, port_written, ties_written, with_number};
 
-use crate::events::put_event;
-use crate::scribe::{LINKS, NONE, Scribe};
+use crate::scribe::Scribe;
 use crate::tokens::number_name;
 use grammar::event::Event;
 use label::kind::Label;
@@ -13,70 +12,71 @@ use plan::tables::FreeLink;
 use text::packed::Name;
 
 /// The open name of a link, if it has one.
-pub(crate) fn open_name(free: &[FreeLink], link: u16) -> Option<Name>
+#[tactic(auto, unfolding(showing::specs::Shown::open_name))]
+fn open_name(free: &[FreeLink], link: u16) -> Option<Name>
     ensures { result ≡ open_name link free.now }
 {
-    let mut rest = free;
-    while let [end, after @ ..] = rest {
-        if end.link == link {
-            return Some(end.name);
+    free.iter().find(|end| end.link == link).map(|end| end.name)
+}
+
+impl Scribe<'_> {
+    /// The number of a link. The first call for a link gives it the next one; a link that no sound plan has gets none.
+    #[tactic(auto, using(crate::proofs::Linking::next_given, crate::proofs::Linking::next_high))]
+    fn number_of(&mut self, link: u16) -> Option<u16>
+        ensures page { page_of self.new ≡ with_number (page_of self.old) link }
+        ensures number { result ≡ number_in (page_of self.new) link }
+    {
+        let row = usize::from(link);
+        if let Some(number) = *self.numbers.get(row)? {
+            return Some(number);
         }
-        rest = after;
+        let number = self.count;
+        self.numbers[row] = Some(number);
+        self.count = number.saturating_add(1);
+        Some(number)
     }
-    None
-}
 
-/// The number of a link. The first call for a link gives it the next one.
-fn number_of(scribe: &mut Scribe<'_>, link: u16) -> u16
-    ensures page { page_of scribe.new ≡ with_number (page_of scribe.old) link }
-    ensures number { result ≡ number_of (page_of scribe.new) link }
-{
-    let i = link as usize;
-    if i >= LINKS {
-        return NONE;
-    }
-    if scribe.numbers[i] == NONE && scribe.count < NONE {
-        scribe.numbers[i] = scribe.count;
-        scribe.count += 1;
-    }
-    scribe.numbers[i]
-}
-
-/// Writes a port, by its link.
-fn put_port<L: Label>(scribe: &mut Scribe<'_>, free: &[FreeLink], link: u16)
-    ensures { page_of scribe.new ≡ port_written L.Label.kind free.now (page_of scribe.old) link }
-{
-    let name = match open_name(free, link) {
-        Some(name) => name,
-        None => number_name(number_of(scribe, link)),
-    };
-    let event: Event<L> = Event::Port(name);
-    put_event(scribe, event);
-}
-
-/// Writes ports, by their links.
-pub(crate) fn put_ports<L: Label>(scribe: &mut Scribe<'_>, free: &[FreeLink], links: &[u16])
-    ensures { page_of scribe.new ≡ fold (port_written L.Label.kind free.now) (page_of scribe.old) links.now }
-{
-    let mut rest = links;
-    while let [link, after @ ..] = rest {
-        put_port::<L>(scribe, free, *link);
-        rest = after;
-    }
-}
-
-/// Writes the connectors between free links.
-pub(crate) fn put_ties<L: Label>(scribe: &mut Scribe<'_>, free: &[FreeLink])
-    ensures { page_of scribe.new ≡ fold (event_written L.Label.kind) (page_of scribe.old) (ties free.now) }
-{
-    let mut rest = free;
-    while let [end, after @ ..] = rest {
-        if let Some(later) = open_name(after, end.link) {
-            let first: Event<L> = Event::First(end.name);
-            put_event(scribe, first);
-            let second: Event<L> = Event::Second(later);
-            put_event(scribe, second);
+    /// The name that a link is shown by: its open name, or else that of its number.
+    fn name_of(&mut self, link: u16) -> Option<Name>
+        ensures page { page_of self.new ≡ named_on (page_of self.old) link }
+        ensures name { result ≡ named_as (page_of self.old) link }
+    {
+        // A `match`, as nothing is known of the scribe after a closure of `or_else` that changes it.
+        match open_name(self.free, link) {
+            Some(name) => Some(name),
+            None => self.number_of(link).map(number_name),
         }
-        rest = after;
+    }
+
+    /// Writes a port, by its link.
+    fn put_port<L: Label>(&mut self, link: u16)
+        ensures { page_of self.new ≡ port_written L.Label.kind (page_of self.old) link }
+    {
+        if let Some(name) = self.name_of(link) {
+            self.put_event::<L>(Event::Port(name));
+        }
+    }
+
+    /// Writes ports, by their links.
+    #[tactic(auto, using(std::proofs::lemmas::List::Sums::fold_more))]
+    pub(crate) fn put_ports<L: Label>(&mut self, links: &[u16])
+        ensures { page_of self.new ≡ fold (port_written L.Label.kind) (page_of self.old) links.now }
+    {
+        for link in links {
+            self.put_port::<L>(*link);
+        }
+    }
+
+    /// Writes the connectors between free links.
+    pub(crate) fn put_ties<L: Label>(&mut self)
+        ensures { page_of self.new ≡ ties_written L.Label.kind (page_of self.old) }
+    {
+        let free = self.free;
+        for (row, end) in free.iter().enumerate() {
+            if let Some(later) = open_name(&free[row + 1..], end.link) {
+                self.put_event::<L>(Event::First(end.name));
+                self.put_event::<L>(Event::Second(later));
+            }
+        }
     }
 }

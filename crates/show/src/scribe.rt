@@ -1,28 +1,25 @@
 //! What a text is written with.
 use plan::limits::LINK_LIMIT;
+use plan::tables::FreeLink;
 use showing::last::Last;
 
 /// A place for each link that a sound plan can have.
 pub const LINKS: usize = LINK_LIMIT as usize;
 
-/// In place of a link's number, where it has none yet.
-pub const NONE: u16 = u16::MAX;
-
-/// A buffer, how far it is written, and the numbers that links were given.
+/// A buffer, how far it is written, and the names and numbers of links.
+// There is no heap: the buffer is the caller's memory, so how far it is written stands beside it.
 #[derive(Drop)]
 pub struct Scribe<'a> {
-    /// The buffer. Bytes past its end are counted only.
+    /// The buffer.
     pub out: &'a mut [u8],
-    /// How many bytes there may be.
-    pub most: usize,
-    /// How many bytes there are, of those.
+    /// How many bytes were written. Those past the buffer's end are counted only.
     pub len: usize,
-    /// Whether there are more.
-    pub over: bool,
     /// What was written last.
     pub last: Last,
+    /// The open names.
+    pub free: &'a [FreeLink],
     /// The number of each link that has one.
-    pub numbers: [u16; LINKS],
+    pub numbers: [Option<u16>; LINKS],
     /// How many have one.
     pub count: u16,
 }

@@ -1,4 +1,5 @@
 //! The texts of plans.
+use fault::Fault;
 use label::word::WordLabel;
 use plan::tables::{Atom, Cell, Census, FreeLink, Plan};
 use show::show::show;
@@ -8,26 +9,17 @@ fn word(bytes: &[u8]) -> WordLabel {
     WordLabel(packed(bytes))
 }
 
-fn name(bytes: &[u8]) -> Name {
-    Name {
-        packed: packed(bytes),
-    }
-}
-
 /// Whether a text stands at the front of a buffer, and only untouched bytes after it.
 fn holds(out: &[u8], text: &[u8]) -> bool {
-    for (i, byte) in out.iter().enumerate() {
-        let wanted = if i < text.len() { text[i] } else { b'#' };
-        if *byte != wanted {
-            return false;
-        }
+    match out.strip_prefix(text) {
+        Some(rest) => rest.iter().all(|byte| *byte == b'#'),
+        None => false,
     }
-    text.len() <= out.len()
 }
 
 /// Shows a plan into a buffer: an atom on the root, one in a cell inside a cell, one in the outer cell;
 /// a link between two ports, one from a port to an open name, one between two open names, and a loop.
-fn shown(root: u8, out: &mut [u8]) -> Result<usize, u8> {
+fn shown(root: u8, out: &mut [u8]) -> Result<usize, Fault> {
     let mut atoms = [
         Atom {
             label: word(b"a"),
@@ -64,15 +56,15 @@ fn shown(root: u8, out: &mut [u8]) -> Result<usize, u8> {
     ];
     let mut free = [
         FreeLink {
-            name: name(b"B"),
+            name: Name::new(b"B"),
             link: 8000,
         },
         FreeLink {
-            name: name(b"C"),
+            name: Name::new(b"C"),
             link: 5,
         },
         FreeLink {
-            name: name(b"D_9"),
+            name: Name::new(b"D_9"),
             link: 5,
         },
     ];
@@ -96,46 +88,34 @@ fn shown(root: u8, out: &mut [u8]) -> Result<usize, u8> {
         register: &mut register,
         label_count: 2,
     };
-    match show::<WordLabel>(&plan, out) {
-        Ok(n) => Ok(n),
-        Err(fault) => Err(fault.number()),
-    }
-}
-
-/// Whether a call of `shown` answered a number of bytes, or was refused.
-fn gave(answer: Result<usize, u8>, bytes: usize) -> bool {
-    match answer {
-        Ok(n) => n == bytes,
-        Err(_) => false,
-    }
-}
-
-fn refused(answer: Result<usize, u8>, number: u8) -> bool {
-    match answer {
-        Ok(_) => false,
-        Err(n) => n == number,
-    }
+    show(&plan, out)
 }
 
 #[test]
 fn a_plan(rt: HostRuntime) {
     let mut long = [b'#'; 64];
-    assert!(rt; gave(shown(1, &mut long), 35));
+    assert_eq!(rt; shown(1, &mut long).ok(), Some(35));
     assert!(rt; holds(&long, b"a(_0,B,_1,_1),{b,{@15,b(_0)}},C=D_9"));
 }
 
 #[test]
 fn a_buffer_just_long_enough(rt: HostRuntime) {
     let mut exact = [b'#'; 35];
-    assert!(rt; gave(shown(1, &mut exact), 35));
+    assert_eq!(rt; shown(1, &mut exact).ok(), Some(35));
     assert!(rt; holds(&exact, b"a(_0,B,_1,_1),{b,{@15,b(_0)}},C=D_9"));
 }
 
 #[test]
 fn refusals_leave_the_buffer(rt: HostRuntime) {
     let mut short = [b'#'; 34];
-    assert!(rt; refused(shown(1, &mut short), 23));
+    assert_eq!(rt;
+        shown(1, &mut short).map_err(|fault| fault.number()),
+        Err(23)
+    );
     assert!(rt; holds(&short, b""));
-    assert!(rt; refused(shown(2, &mut short), 20));
+    assert_eq!(rt;
+        shown(2, &mut short).map_err(|fault| fault.number()),
+        Err(20)
+    );
     assert!(rt; holds(&short, b""));
 }

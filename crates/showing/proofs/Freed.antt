@@ -1,4 +1,6 @@
 -- The open names of a plan's links, and how often they stand in connectors between free links.
+use Rattle.std.specs.Prelude.{option_map}
+use Rattle.std.specs.List.{find}
 use Rattle.std.proofs.Common.{◌≡◌, ℕ, suc, ◌<◌, ◌≤◌, true, eqb, List, [], ◌∷◌, ◌++◌, map, Some, None, Option, sym, refl, ap, ◌∙◌, subst, ⊎_elim, arith}
 use Rattle.std.specs.List.{AllByRecursion as All}
 use Rattle.std.proofs.lemmas.Bool.Decides.{nat_tests}
@@ -9,7 +11,8 @@ use Rattle.grammar.specs.declared.event.Event.TheVariants as events
 use Rattle.plan.specs.declared.tables.FreeLink.{FreeLink}
 use Rattle.plan.specs.Sound.{count, distinct}
 use Rattle.showing.specs.Shown.{open_name, ties}
-use Rattle.showing.specs.Reading.{name_standings}
+use Rattle.grammar.specs.Events.{name_standings}
+use Rattle.showing.specs.Reading.{names_in, stream}
 
 abbrev pub names : List FreeLink → List ℕ
 names fs = map (λ f. f.name.packed) fs
@@ -20,11 +23,11 @@ links fs = map (λ f. f.link) fs
 -- the first row of a link, or the rows after
 pub open_here : (x : ℕ) (f : FreeLink) (fs : List FreeLink) → x ≡ f.link → open_name x (f ∷ fs) ≡ Some f.name
 unfolding open_name
-open_here x f fs e = cond-true (eqb f.link x) _ _ (eq-eqb f.link x (sym e))
+open_here x f fs e = ap (option_map (λ (f : FreeLink). f.name)) (cond-true (eqb f.link x) (Some f) (find (λ (f : FreeLink). eqb f.link x) fs) (eq-eqb f.link x (sym e)))
 
 pub open_later : (x : ℕ) (f : FreeLink) (fs : List FreeLink) → (x ≡ f.link → ⊥) → open_name x (f ∷ fs) ≡ open_name x fs
 unfolding open_name
-open_later x f fs n = cond-false (eqb f.link x) _ _ (ne_eqb f.link x (λ e. n (sym e)))
+open_later x f fs n = ap (option_map (λ (f : FreeLink). f.name)) (cond-false (eqb f.link x) (Some f) (find (λ (f : FreeLink). eqb f.link x) fs) (ne_eqb f.link x (λ e. n (sym e))))
 
 pub count_here : (x y : ℕ) (ys : List ℕ) → x ≡ y → count x (y ∷ ys) ≡ suc (count x ys)
 unfolding count
@@ -104,8 +107,8 @@ open_same x y (f ∷ fs) a b d e g s =
     (cases_eq y f.link))
     (cases_eq x f.link)
 
-pub standings_append : {L : Type 0} (es gs : List (Event L)) → name_standings (es ++ gs) ≡ name_standings es ++ name_standings gs
-unfolding name_standings
+pub standings_append : {L : Type 0} (es gs : List (Event L)) → names_in (es ++ gs) ≡ names_in es ++ names_in gs
+unfolding stream name_standings
 standings_append [] gs = refl
 standings_append (events.Label l ∷ es) gs = standings_append es gs
 standings_append (events.Port n ∷ es) gs = ap (λ ns. n.packed ∷ ns) (standings_append es gs)
@@ -118,20 +121,20 @@ standings_append (events.Second n ∷ es) gs = ap (λ ns. n.packed ∷ ns) (stan
 module _ (L : Type 0) where
   -- how often a name stands in the connectors
   abbrev pub tied : ℕ → List FreeLink → ℕ
-  tied n fs = count n (name_standings (ties {L = L} fs))
+  tied n fs = count n (names_in (ties {L = L} fs))
 
   -- a row with no later row on its link, and one with
   pub tied_none : (n : ℕ) (f : FreeLink) (fs : List FreeLink) → open_name f.link fs ≡ None → tied n (f ∷ fs) ≡ tied n fs
   unfolding ties
   tied_none n f fs e = rw e
 
-  pub tied_some : (n : ℕ) (f : FreeLink) (fs : List FreeLink) (a : Name) → open_name f.link fs ≡ Some a → tied n (f ∷ fs) ≡ count n (f.name.packed ∷ (a.packed ∷ name_standings (ties {L = L} fs)))
-  unfolding ties name_standings
+  pub tied_some : (n : ℕ) (f : FreeLink) (fs : List FreeLink) (a : Name) → open_name f.link fs ≡ Some a → tied n (f ∷ fs) ≡ count n (f.name.packed ∷ (a.packed ∷ names_in (ties {L = L} fs)))
+  unfolding ties stream name_standings
   tied_some n f fs a e = rw e
 
   -- a name of no row stands in no connector
   pub tied_never : (n : ℕ) (fs : List FreeLink) → count n (names fs) ≡ 0 → tied n fs ≡ 0
-  unfolding ties name_standings count
+  unfolding ties stream name_standings count
   tied_never n [] h = refl
   tied_never n (f ∷ fs) h = by (open_name f.link fs) refl (tied_never n fs)
     where
@@ -154,7 +157,7 @@ module _ (L : Type 0) where
       (cases_eq x f.link)
     where
       rest : List ℕ
-      rest = name_standings (ties {L = L} fs)
+      rest = names_in (ties {L = L} fs)
 
       here : x ≡ f.link → (o : Option Name) → open_name f.link fs ≡ o → (tied a.packed (f ∷ fs) ≤ 1) × (tied a.packed (f ∷ fs) < count x (links (f ∷ fs)))
       here h o e₂ =
@@ -191,7 +194,7 @@ module _ (L : Type 0) where
 
   -- no name stands a third time in the connectors
   pub tied_most : (n : ℕ) (fs : List FreeLink) → distinct (names fs) ≡ true → tied n fs ≤ 2
-  unfolding ties name_standings count
+  unfolding ties stream name_standings count
   tied_most n [] d = omega arith
   tied_most n (f ∷ fs) d = by (open_name f.link fs) refl (tied_most n fs (apart_parts f fs d).1)
     where

@@ -19,9 +19,10 @@ use Rattle.plan.specs.Sound as sound
 use Rattle.showing.specs.declared.last.Last.{Last}
 use Rattle.showing.specs.declared.last.Last.TheVariants as last
 use Rattle.showing.specs.Text.{before_item, before_port, at_end, lead, token_bytes, own, past, text_of}
-use Rattle.showing.specs.Walk.{Step, atom, enter, leave, flat, atoms_in, cells_in, walk, whole_walk}
+use Rattle.std.specs.List.{flat_map}
+use Rattle.showing.specs.Walk.{Step, atom, enter, leave, atoms_in, cells_in, walk, whole_walk}
 use Rattle.showing.specs.Shown.{open_name, shown_name, place, numbered, or_number, step_events, tie, ties, plan_events, shown}
-use Rattle.showing.specs.Reading.{proper_name}
+use Rattle.grammar.specs.Events.{proper_name}
 use Rattle.showing.proofs.Totals.{total, total_append, total_alike, total_plus, total_same, total_most, total_less, total_flat, total_map, total_swap, count_total, count_append, length_total, all_append, all_of, all_weaker}
 use Rattle.showing.proofs.Visits.{weigh}
 use Rattle.showing.proofs.Meeting.{Facts, walk_weight, met_length, met_total, met_links, total_ports}
@@ -107,8 +108,7 @@ module _ {L : Type 0} (k : Kind L) (law : Lawful k) (m : Model L) (f : Facts k m
   all_atoms [] = tt
   all_atoms (a ∷ nodes) = (tt, all_atoms nodes)
 
-  around_small : (n : ℕ) (rs : List ℕ) → ((c : ℕ) → All Small (walk n m c)) → All Small (flat (λ r. enter (get_or m.cells r no_cell).set ∷ (walk n m r ++ (leave ∷ []))) rs)
-  unfolding flat
+  around_small : (n : ℕ) (rs : List ℕ) → ((c : ℕ) → All Small (walk n m c)) → All Small (flat_map (λ r. enter (get_or m.cells r no_cell).set ∷ (walk n m r ++ (leave ∷ []))) rs)
   around_small n [] ih = tt
   around_small n (r ∷ rs) ih = (set_low m.cells r f.sets, all_append Small (walk n m r ++ (leave ∷ [])) _ (all_append Small (walk n m r) (leave ∷ []) (ih r) (tt, tt)) (around_small n rs ih))
 
@@ -148,7 +148,7 @@ module _ {L : Type 0} (k : Kind L) (law : Lawful k) (m : Model L) (f : Facts k m
       (λ _. let d = length-decimal-le 2 s (omega arith) (omega arith) (omega arith) in omega arith)
   step_cost leave h = omega arith
 
-  walk_cost : total (cost k) (flat (step_events (shown_name m)) (whole_walk m)) ≤ total (weigh atom_cost 8 2) (whole_walk m)
+  walk_cost : total (cost k) (flat_map (step_events (shown_name m)) (whole_walk m)) ≤ total (weigh atom_cost 8 2) (whole_walk m)
   walk_cost =
       let e = total_flat (cost k) (step_events (shown_name m)) (whole_walk m) in
       let l = total_less (λ s. total (cost k) (step_events (shown_name m) s)) (weigh atom_cost 8 2) (whole_walk m) (all_weaker Small (λ s. total (cost k) (step_events (shown_name m) s) ≤ weigh atom_cost 8 2 s) (whole_walk m) step_cost (walk_small 17 0)) in
@@ -170,8 +170,8 @@ module _ {L : Type 0} (k : Kind L) (law : Lawful k) (m : Model L) (f : Facts k m
   open_ports =
       let fs = links m.free in
       let a = total_alike (λ x. count x fs) (λ x. total (λ y. cond (eqb x y) 1 0) fs) ports_of (λ x. count_total x fs) ∙ total_swap (λ x y. cond (eqb x y) 1 0) ports_of fs in
-      let each : (y : ℕ) → total (λ x. cond (eqb x y) 1 0) ports_of ≤ 2 = λ y. (let s = total_alike (λ x. cond (eqb x y) 1 0) (λ x. cond (eqb y x) 1 0) ports_of (λ x. grind (arith, nat_tests)) in let c = count_total y ports_of in let t = at_most_two y in omega arith) in
-      let b = total_most (λ y. total (λ x. cond (eqb x y) 1 0) ports_of) 2 fs (all_of (λ y. total (λ x. cond (eqb x y) 1 0) ports_of ≤ 2) fs each) in
+      let list_all : (y : ℕ) → total (λ x. cond (eqb x y) 1 0) ports_of ≤ 2 = λ y. (let s = total_alike (λ x. cond (eqb x y) 1 0) (λ x. cond (eqb y x) 1 0) ports_of (λ x. grind (arith, nat_tests)) in let c = count_total y ports_of in let t = at_most_two y in omega arith) in
+      let b = total_most (λ y. total (λ x. cond (eqb x y) 1 0) ports_of) 2 fs (all_of (λ y. total (λ x. cond (eqb x y) 1 0) ports_of ≤ 2) fs list_all) in
       let l = length-map m.free (λ f. f.link) in
       let n = f.few_free in
       omega arith
@@ -217,7 +217,7 @@ module _ {L : Type 0} (k : Kind L) (law : Lawful k) (m : Model L) (f : Facts k m
   pub shown_short : length (shown k m) ≤ 65535
   shown_short =
       let a = text_short k last.Nothing (plan_events m) in
-      let b = total_append (cost k) (flat (step_events (shown_name m)) (whole_walk m)) (ties m.free) in
+      let b = total_append (cost k) (flat_map (step_events (shown_name m)) (whole_walk m)) (ties m.free) in
       let c = walk_cost in
       let d = walk_weight k m f atom_cost 8 2 in
       let e = atoms_cost in

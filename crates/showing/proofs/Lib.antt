@@ -1,3 +1,4 @@
+pub mod Lists
 pub mod Lexing
 pub mod Noting
 pub mod Setting

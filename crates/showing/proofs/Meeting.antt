@@ -9,7 +9,8 @@ use Rattle.plan.specs.declared.tables.Plan.{Plan}
 use Rattle.plan.specs.Model.{Model, Node, node_of, model_of}
 use Rattle.plan.specs.Sound.{Sound, count, distinct, leads, is_root, parentless, port_links, ends, open_name}
 use Rattle.plan.proofs.Wholeness.{whole}
-use Rattle.showing.specs.Walk.{Step, atom, enter, leave, flat, atoms_in, whole_walk}
+use Rattle.std.specs.List.{flat_map}
+use Rattle.showing.specs.Walk.{Step, atom, enter, leave, atoms_in, whole_walk}
 use Rattle.showing.specs.Shown.{step_links}
 use Rattle.showing.proofs.Totals.{total, total_alike, total_all, total_append, total_empty, total_flat, total_kept, total_swap, total_same, total_most, total_once, count_total, length_total, each_all, each_row, all_weaker, all_map}
 use Rattle.showing.proofs.Visits.{parent, visits, visited_once, visits_length, weigh, weighed}
@@ -91,7 +92,7 @@ module _ {L : Type 0} (k : Kind L) (m : Model L) (f : Facts k m) where
   walk_atoms w = let e = walk_weight w 0 0 in omega arith
 
   abbrev pub met_links : List ℕ
-  met_links = flat step_links (whole_walk m)
+  met_links = flat_map step_links (whole_walk m)
 
   links_met : (g : ℕ → ℕ) → total g met_links ≡ total (λ a. total g a.links) m.atoms
   links_met g =

@@ -4,15 +4,16 @@ use Rattle.std.proofs.lemmas.Bool.Decides.{nat_tests}
 use Rattle.std.proofs.lemmas.Fmt.{digits_decimal, length-decimal-le, decimal_injective}
 use Rattle.std.proofs.lemmas.Bool.{and_parts, and_from, eq-eqb, cond-false, cases_eq, cond_both, le-leb, ne_eqb}
 use Rattle.text.specs.Classes.{class_of, digit, tail, upper}
-use Rattle.text.specs.Shapes.{all, is_name}
-use Rattle.text.specs.Packed.{pack, spelling, padded, numeral, named}
+use Rattle.std.specs.List.{list_all}
+use Rattle.text.specs.Shapes.{is_name}
+use Rattle.text.specs.Packed.{pack, spelling, padded, numeral, named, underscored}
 use Rattle.text.proofs.Packing.{Bytes}
 use Rattle.text.proofs.Shapes.{named_bytes}
 use Rattle.text.proofs.Order.{lossless}
-use Rattle.grammar.specs.Reading.{underscored}
+use Rattle.grammar.specs.Reading.{}
 use Rattle.plan.specs.Sound.{count}
 use Rattle.showing.specs.Shown.{number_name, place, joins, firsts}
-use Rattle.showing.specs.Reading.{proper_name}
+use Rattle.grammar.specs.Events.{proper_name}
 use Rattle.showing.proofs.Setting.{own}
 
 -- digits go on a name
@@ -20,10 +21,9 @@ digit_tail : (b : ℕ) → digit b ≡ true → tail b ≡ true
 unfolding class_of
 digit_tail b h = grind (arith, nat_tests)
 
-digits_tails : (ds : List ℕ) → all digit ds ≡ true → all tail ds ≡ true
-unfolding all
+digits_tails : (ds : List ℕ) → list_all digit ds ≡ true → list_all tail ds ≡ true
 digits_tails [] h = refl
-digits_tails (d ∷ ds) h = let p = and_parts (digit d) (all digit ds) h in and_from (tail d) (all tail ds) (digit_tail d p.0) (digits_tails ds p.1)
+digits_tails (d ∷ ds) h = let p = and_parts (digit d) (list_all digit ds) h in and_from (tail d) (list_all tail ds) (digit_tail d p.0) (digits_tails ds p.1)
 
 underscore_upper : upper 95 ≡ true
 unfolding class_of
@@ -36,7 +36,7 @@ number_bytes i h =
     let few : i < 10 ^ 4 = omega arith in
     let l = length-decimal-le 4 i (omega arith) few small in
     let t = digits_tails (decimal i) (digits_decimal own i small) in
-    (and_from (upper 95 && all tail (decimal i)) (leb (suc (length (decimal i))) 8) (and_from (upper 95) (all tail (decimal i)) underscore_upper t) (le-leb (suc (length (decimal i))) 8 (omega arith)), omega arith)
+    (and_from (upper 95 && list_all tail (decimal i)) (leb (suc (length (decimal i))) 8) (and_from (upper 95) (list_all tail (decimal i)) underscore_upper t) (le-leb (suc (length (decimal i))) 8 (omega arith)), omega arith)
 
 name_named : (bs : List ℕ) → is_name bs ≡ true → named bs ≡ true
 name_named bs h = grind (arith, nat_tests)
@@ -114,7 +114,7 @@ joined_kept : (x y : ℕ) (xs : List ℕ) → place x xs < length xs → place x
 joined_kept x y xs h =
     cond_both (eqb (place y xs) (length xs)) (xs ++ (y ∷ [])) xs (λ zs. place x zs < length zs) (λ _. place_append x xs (y ∷ []) h) (λ _. h)
 
-joined_new : (x : ℕ) (xs : List ℕ) → place x (joins xs x) < length (joins xs x)
+pub joined_new : (x : ℕ) (xs : List ℕ) → place x (joins xs x) < length (joins xs x)
 joined_new x xs =
     cond_both (eqb (place x xs) (length xs)) (xs ++ (x ∷ [])) xs (λ zs. place x zs < length zs) (λ _. place_pushed x xs) (λ e. let m = place_most x xs in grind (arith, nat_tests))
 

@@ -5,7 +5,8 @@ use Rattle.std.proofs.lemmas.Bool.{cond-false, and_parts, cases_Bool}
 use Rattle.text.specs.declared.packed.Name.{Name}
 use Rattle.grammar.specs.declared.stand.Standing.{Standing}
 use Rattle.grammar.specs.State.{times, noted}
-use Rattle.grammar.specs.Reading.{underscored, lone, first_lone}
+use Rattle.text.specs.Packed.{underscored}
+use Rattle.grammar.specs.Reading.{lone, first_lone}
 use Rattle.plan.specs.Sound.{count}
 
 -- how many rows a name has

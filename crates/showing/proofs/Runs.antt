@@ -1,4 +1,5 @@
 -- The events of a sound plan are in order.
+use Rattle.std.proofs.lemmas.List.Concat.{flat_map-append}
 use Rattle.std.proofs.Common.{◌≡◌, ℕ, zero, suc, ◌+◌, ◌-◌, ◌<◌, ◌≤◌, true, false, ◌&&◌, ◌||◌, eqb, ltb, leb, List, [], ◌∷◌, ◌++◌, map, length, get_or, Some, None, Option, sym, refl, ap, ◌∙◌, subst, ap₂, ⊎_elim, append_assoc, append-nil, arith}
 use Rattle.std.specs.List.{AllByRecursion as All}
 use Rattle.std.proofs.lemmas.Bool.Decides.{nat_tests}
@@ -12,19 +13,16 @@ use Rattle.plan.specs.declared.tables.FreeLink.{FreeLink}
 use Rattle.plan.specs.Model.{Model, Node}
 use Rattle.plan.specs.Sound.{leads, onward, no_cell, rows}
 use Rattle.plan.specs.Sound as sound
-use Rattle.showing.specs.Walk.{Step, atom, enter, leave, flat, has_parent, atoms_in, cells_in, walk, whole_walk}
+use Rattle.std.specs.List.{flat_map}
+use Rattle.showing.specs.Walk.{Step, atom, enter, leave, has_parent, atoms_in, cells_in, walk, whole_walk}
 use Rattle.showing.specs.Shown.{open_name, shown_name, set_events, step_events, tie, ties, plan_events}
-use Rattle.showing.specs.Reading.{Before, opening, label, ports, halfway, item, whole, proper_name, may_stand, depth_after, then, in_order, event_connectors, connectors, Writable}
-use Rattle.showing.proofs.Totals.{total, total_append, total_alike, total_none, total_flat, total_map, all_kept, all_both, all_rows, all_weaker}
+use Rattle.grammar.specs.Events.{proper_name, depth_after, connectors_at}
+use Rattle.showing.specs.Reading.{Before, opening, label, ports, halfway, item, whole, may_stand, then, in_order, connectors, Writable}
+use Rattle.showing.proofs.Totals.{summed_total, total, total_append, total_alike, total_none, total_flat, total_map, all_kept, all_both, all_rows, all_weaker}
 use Rattle.showing.proofs.Visits.{parent}
 use Rattle.showing.proofs.Meeting.{Facts}
 use Rattle.showing.proofs.Freed.{open_good}
 use Rattle.showing.proofs.Twice.{open_proper, shown_proper, standings_right}
-
-pub flat_append : {A B : Type 0} (f : A → List B) (xs ys : List A) → flat f (xs ++ ys) ≡ flat f xs ++ flat f ys
-unfolding flat
-flat_append f [] ys = refl
-flat_append f (x ∷ xs) ys = ap (λ t. f x ++ t) (flat_append f xs ys) ∙ sym (append_assoc (f x) (flat f xs) (flat f ys))
 
 module _ {L : Type 0} (k : Kind L) where
   -- events of whole items, where so many cells are open: whatever may follow items may follow them
@@ -59,10 +57,9 @@ module _ {L : Type 0} (k : Kind L) where
     atom_goes d a mine few x h rest f =
         before d x (events.Label a.label) (map (λ x. events.Port (name x)) a.links ++ rest) (and_from (whole x) (k.mine a.label) h mine) (ports_go d a.links rest few f)
 
-    atoms_go : (d : ℕ) (nodes : List (Node L)) → All (λ a. (k.mine a.label ≡ true) × (length a.links ≤ 8)) nodes → Goes d (flat (step_events name) (map atom nodes))
-    unfolding flat
+    atoms_go : (d : ℕ) (nodes : List (Node L)) → All (λ a. (k.mine a.label ≡ true) × (length a.links ≤ 8)) nodes → Goes d (flat_map (step_events name) (map atom nodes))
     atoms_go d [] h = goes_none d
-    atoms_go d (a ∷ nodes) h = goes_append d (step_events name (atom a)) (flat (step_events name) (map atom nodes)) (atom_goes d a h.0.0 h.0.1) (atoms_go d nodes h.1)
+    atoms_go d (a ∷ nodes) h = goes_append d (step_events name (atom a)) (flat_map (step_events name) (map atom nodes)) (atom_goes d a h.0.0 h.0.1) (atoms_go d nodes h.1)
 
   -- where a cell ends
   leaves : (d : ℕ) (rest : List (Event L)) → ((y : Before) → whole y ≡ true → in_order k d y rest ≡ true) → (y : Before) → whole y ≡ true → in_order k (suc d) y (events.Leave ∷ rest) ≡ true
@@ -125,24 +122,22 @@ module _ {L : Type 0} (k : Kind L) (m : Model L) (f : Facts k m) where
   abbrev through : ℕ → ℕ → List (Step L)
   through n r = enter (get_or m.cells r no_cell).set ∷ (walk n m r ++ (leave ∷ []))
 
-  through_is : (n r : ℕ) → flat shown_step (through n r) ≡ (events.Enter ∷ set_events (get_or m.cells r no_cell).set) ++ (flat shown_step (walk n m r) ++ (events.Leave ∷ []))
-  unfolding flat
-  through_is n r = ap (λ t. (events.Enter ∷ set_events (get_or m.cells r no_cell).set) ++ t) (flat_append shown_step (walk n m r) (leave ∷ []))
+  through_is : (n r : ℕ) → flat_map shown_step (through n r) ≡ (events.Enter ∷ set_events (get_or m.cells r no_cell).set) ++ (flat_map shown_step (walk n m r) ++ (events.Leave ∷ []))
+  through_is n r = ap (λ t. (events.Enter ∷ set_events (get_or m.cells r no_cell).set) ++ t) (flat_map-append shown_step (walk n m r) (leave ∷ []))
 
   -- through the cells of a cell
-  cells_go : (n d c : ℕ) (rs : List ℕ) → Deep m.cells d c → ((r : ℕ) → Deep m.cells (suc d) r → Goes k (suc d) (flat shown_step (walk n m r))) → All (λ r. (r < 0 + length m.cells) × (has_parent c (parent m.cells r) ≡ true)) rs → Goes k d (flat shown_step (flat (through n) rs))
-  unfolding flat
+  cells_go : (n d c : ℕ) (rs : List ℕ) → Deep m.cells d c → ((r : ℕ) → Deep m.cells (suc d) r → Goes k (suc d) (flat_map shown_step (walk n m r))) → All (λ r. (r < 0 + length m.cells) × (has_parent c (parent m.cells r) ≡ true)) rs → Goes k d (flat_map shown_step (flat_map (through n) rs))
   cells_go n d c [] deep inner h = goes_none k d
   cells_go n d c (r ∷ rs) deep inner h =
       let below : Deep m.cells (suc d) r = (c, (has_parent_is c (parent m.cells r) h.0.1, deep)) in
       let l = h.0.0 in
       let most : suc d ≤ 16 = deep_most m.cells (suc d) 16 r f.top below (f.lead r (omega arith)) in
-      let one : Goes k d (flat shown_step (through n r)) = subst (Goes k d) (sym (through_is n r)) (cell_goes k d (get_or m.cells r no_cell).set (flat shown_step (walk n m r)) (omega arith) (set_low m.cells r f.sets) (inner r below)) in
-      subst (Goes k d) (sym (flat_append shown_step (through n r) (flat (through n) rs)))
-      (goes_append k d (flat shown_step (through n r)) (flat shown_step (flat (through n) rs)) one (cells_go n d c rs deep inner h.1))
+      let one : Goes k d (flat_map shown_step (through n r)) = subst (Goes k d) (sym (through_is n r)) (cell_goes k d (get_or m.cells r no_cell).set (flat_map shown_step (walk n m r)) (omega arith) (set_low m.cells r f.sets) (inner r below)) in
+      subst (Goes k d) (sym (flat_map-append shown_step (through n r) (flat_map (through n) rs)))
+      (goes_append k d (flat_map shown_step (through n r)) (flat_map shown_step (flat_map (through n) rs)) one (cells_go n d c rs deep inner h.1))
 
-  walk_goes : (n d c : ℕ) → Deep m.cells d c → Goes k d (flat shown_step (walk n m c))
-  unfolding walk flat
+  walk_goes : (n d c : ℕ) → Deep m.cells d c → Goes k d (flat_map shown_step (walk n m c))
+  unfolding walk
   walk_goes zero d c deep = goes_none k d
   walk_goes (suc n) d c deep =
       let nodes = atoms_in c m.atoms in
@@ -151,8 +146,8 @@ module _ {L : Type 0} (k : Kind L) (m : Model L) (f : Facts k m) where
       let kept = all_kept (λ a. (k.mine a.label ≡ true) × (length a.links ≤ 8)) (λ a. eqb a.cell c) m.atoms fine in
       let here = atoms_go k (shown_name m) (shown_proper k m f) d nodes (all_weaker (λ a. ((k.mine a.label ≡ true) × (length a.links ≤ 8)) × (eqb a.cell c ≡ true)) (λ a. (k.mine a.label ≡ true) × (length a.links ≤ 8)) nodes (λ a h. h.0) kept) in
       let inner = cells_go n d c rs deep (λ r below. walk_goes n (suc d) r below) (all_kept (λ r. r < 0 + length m.cells) (λ r. has_parent c (parent m.cells r)) (rows 0 (length m.cells)) (all_rows 0 (length m.cells))) in
-      subst (Goes k d) (sym (flat_append shown_step (map atom nodes) (flat (through n) rs)))
-      (goes_append k d (flat shown_step (map atom nodes)) (flat shown_step (flat (through n) rs)) here inner)
+      subst (Goes k d) (sym (flat_map-append shown_step (map atom nodes) (flat_map (through n) rs)))
+      (goes_append k d (flat_map shown_step (map atom nodes)) (flat_map shown_step (flat_map (through n) rs)) here inner)
 
   -- the connectors between free links
   tie_goes : (n : Name) (o : Option Name) → proper_name n ≡ true → ((a : Name) → o ≡ Some a → proper_name a ≡ true) → Goes k 0 (tie n o)
@@ -180,39 +175,34 @@ module _ {L : Type 0} (k : Kind L) (m : Model L) (f : Facts k m) where
 
 -- how many connectors
 
-connectors_total : {L : Type 0} (es : List (Event L)) → connectors es ≡ total event_connectors es
-unfolding connectors total
-connectors_total [] = refl
-connectors_total (e ∷ es) = ap (λ n. event_connectors e + n) (connectors_total es)
-
-step_connectors : {L : Type 0} (name : ℕ → Name) (s : Step L) → total event_connectors (step_events name s) ≡ 0
+step_connectors : {L : Type 0} (name : ℕ → Name) (s : Step L) → total connectors_at (step_events name s) ≡ 0
 unfolding total
 step_connectors {L} name (atom a) =
     let port : ℕ → Event L = λ x. events.Port (name x) in
-    let e = total_map event_connectors port a.links ∙ total_none a.links in omega arith
+    let e = total_map connectors_at port a.links ∙ total_none a.links in omega arith
 step_connectors {L} name (enter k) =
-    cond_both (eqb k 0) [] (events.Set k ∷ []) (λ es. 0 + total {A = Event L} event_connectors es ≡ 0) (λ _. refl) (λ _. refl)
+    cond_both (eqb k 0) [] (events.Set k ∷ []) (λ es. 0 + total {A = Event L} connectors_at es ≡ 0) (λ _. refl) (λ _. refl)
 step_connectors name leave = refl
 
-ties_connectors : (L : Type 0) (fs : List FreeLink) → total (event_connectors {L = L}) (ties fs) ≤ length fs
+ties_connectors : (L : Type 0) (fs : List FreeLink) → total (connectors_at {L = L}) (ties fs) ≤ length fs
 unfolding ties total
 ties_connectors L [] = omega arith
 ties_connectors L (f ∷ fs) =
-    let a = total_append (event_connectors {L = L}) (tie f.name (open_name f.link fs)) (ties fs) in
+    let a = total_append (connectors_at {L = L}) (tie f.name (open_name f.link fs)) (ties fs) in
     let b = one (open_name f.link fs) in
     let ih = ties_connectors L fs in
     omega arith
   where
-    one : (o : Option Name) → total (event_connectors {L = L}) (tie f.name o) ≤ 1
+    one : (o : Option Name) → total (connectors_at {L = L}) (tie f.name o) ≤ 1
     one None = omega arith
     one (Some a) = omega arith
 
 pub plan_connectors : {L : Type 0} (m : Model L) → connectors (plan_events m) ≤ length m.free
 plan_connectors {L} m =
     let steps = whole_walk m in
-    let a = connectors_total (plan_events m) in
-    let b = total_append event_connectors (flat (step_events (shown_name m)) steps) (ties m.free) in
-    let c = total_flat event_connectors (step_events (shown_name m)) steps ∙ total_alike (λ s. total event_connectors (step_events (shown_name m) s)) (λ s. 0) steps (step_connectors (shown_name m)) ∙ total_none steps in
+    let a = summed_total connectors_at (plan_events m) in
+    let b = total_append connectors_at (flat_map (step_events (shown_name m)) steps) (ties m.free) in
+    let c = total_flat connectors_at (step_events (shown_name m)) steps ∙ total_alike (λ s. total connectors_at (step_events (shown_name m) s)) (λ s. 0) steps (step_connectors (shown_name m)) ∙ total_none steps in
     let d = ties_connectors L m.free in
     omega arith
 

@@ -8,7 +8,8 @@ use Rattle.text.specs.declared.packed.Name.{Name}
 use Rattle.text.specs.Packed.{pack, spelling}
 use Rattle.text.specs.Classes.{class_of, tail, digit}
 use Rattle.text.specs.Shapes.{is_name, is_number}
-use Rattle.text.specs.Tokens.{tokens, longest, Stream, token, number}
+use Rattle.std.specs.List.{prefix_len}
+use Rattle.text.specs.Tokens.{tokens, Stream, token, number}
 use Rattle.grammar.specs.declared.event.Event.{Event}
 use Rattle.grammar.specs.declared.event.Event.TheVariants as events
 use Rattle.grammar.specs.declared.stand.Phase.{Phase}
@@ -21,12 +22,13 @@ use Rattle.grammar.specs.Reading.{event, end, follow, judged, first_lone, events
 use Rattle.showing.specs.declared.last.Last.{Last}
 use Rattle.showing.specs.declared.last.Last.TheVariants as last
 use Rattle.showing.specs.Text.{before_item, before_port, at_end, text_of}
-use Rattle.showing.specs.Reading.{Before, opening, label, ports, halfway, item, whole, opens, proper_name}
+use Rattle.grammar.specs.Events.{proper_name}
+use Rattle.showing.specs.Reading.{Before, opening, label, ports, halfway, item, whole, opens}
 use Rattle.showing.proofs.Lexing.{word_first, name_first, number_first}
 
 -- a text that goes on no word, name or number
 abbrev pub Stop : List ℕ → Type 0
-Stop s = (longest tail s ≡ 0) × (longest digit s ≡ 0)
+Stop s = (prefix_len tail s ≡ 0) × (prefix_len digit s ≡ 0)
 
 abbrev written : Last → Bool
 written last.Nothing = false
@@ -35,35 +37,35 @@ written last.Port = true
 written last.Item = true
 
 item_stops : (b : Last) (s : List ℕ) → written b ≡ true → Stop (before_item b ++ s)
-unfolding longest class_of
+unfolding class_of
 item_stops last.Nothing s h = absurd (false≢true h)
 item_stops last.Label s h = (refl, refl)
 item_stops last.Port s h = (refl, refl)
 item_stops last.Item s h = (refl, refl)
 
 port_stops : (b : Last) (s : List ℕ) → Stop (before_port b ++ s)
-unfolding longest class_of
+unfolding class_of
 port_stops last.Nothing s = (refl, refl)
 port_stops last.Label s = (refl, refl)
 port_stops last.Port s = (refl, refl)
 port_stops last.Item s = (refl, refl)
 
 leave_stops : (b : Last) (s : List ℕ) → Stop (at_end b ++ (codes "}" ++ s))
-unfolding longest class_of
+unfolding class_of
 leave_stops last.Nothing s = (refl, refl)
 leave_stops last.Label s = (refl, refl)
 leave_stops last.Port s = (refl, refl)
 leave_stops last.Item s = (refl, refl)
 
 end_stops : (b : Last) → Stop (at_end b)
-unfolding longest class_of
+unfolding class_of
 end_stops last.Nothing = (refl, refl)
 end_stops last.Label = (refl, refl)
 end_stops last.Port = (refl, refl)
 end_stops last.Item = (refl, refl)
 
 equal_stops : (s : List ℕ) → Stop (codes "=" ++ s)
-unfolding longest class_of
+unfolding class_of
 equal_stops s = (refl, refl)
 
 -- what is written after something begins with a mark

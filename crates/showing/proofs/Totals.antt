@@ -3,8 +3,12 @@ use Rattle.std.proofs.Common.{◌≡◌, ℕ, zero, suc, ◌+◌, ◌*◌, ◌<�
 use Rattle.std.specs.List.{AllByRecursion as All}
 use Rattle.std.proofs.lemmas.Bool.Decides.{nat_tests}
 use Rattle.std.proofs.lemmas.Bool.{and_parts, cases_eq}
-use Rattle.plan.specs.Sound.{count, each, rows}
-use Rattle.showing.specs.Walk.{flat}
+use Rattle.std.specs.List.{list_all}
+use Rattle.grammar.specs.declared.event.Event.{Event}
+use Rattle.grammar.specs.Events.{summed}
+use Rattle.plan.specs.Sound.{count, rows}
+use Rattle.showing.specs.Reading.{stream}
+use Rattle.std.specs.List.{flat_map}
 
 unfoldable pub total : {A : Type 0} → (A → ℕ) → List A → ℕ
 total f [] = 0
@@ -40,10 +44,10 @@ module _ {A : Type 0} where
   total_most f n [] h = omega arith
   total_most f n (x ∷ xs) h = let a = h.0 in let ih = total_most f n xs h.1 in let e : suc (length xs) * n ≡ n + length xs * n = omega arith in omega arith
 
-pub total_flat : {A B : Type 0} (g : B → ℕ) (f : A → List B) (xs : List A) → total g (flat f xs) ≡ total (λ x. total g (f x)) xs
-unfolding total flat
+pub total_flat : {A B : Type 0} (g : B → ℕ) (f : A → List B) (xs : List A) → total g (flat_map f xs) ≡ total (λ x. total g (f x)) xs
+unfolding total
 total_flat g f [] = refl
-total_flat g f (x ∷ xs) = let a = total_append g (f x) (flat f xs) in let ih = total_flat g f xs in omega arith
+total_flat g f (x ∷ xs) = let a = total_append g (f x) (flat_map f xs) in let ih = total_flat g f xs in omega arith
 
 pub total_map : {A B : Type 0} (g : B → ℕ) (f : A → B) (xs : List A) → total g (map f xs) ≡ total (λ x. g (f x)) xs
 unfolding total
@@ -93,10 +97,9 @@ module _ {A : Type 0} (P : A → Type 0) where
   all_append [] ys h g = g
   all_append (x ∷ xs) ys h g = (h.0, all_append xs ys h.1 g)
 
-  pub all_flat : {B : Type 0} (Q : B → Type 0) (f : B → List A) (ys : List B) → ((y : B) → Q y → All P (f y)) → All Q ys → All P (flat f ys)
-  unfolding flat
+  pub all_flat : {B : Type 0} (Q : B → Type 0) (f : B → List A) (ys : List B) → ((y : B) → Q y → All P (f y)) → All Q ys → All P (flat_map f ys)
   all_flat Q f [] g h = tt
-  all_flat Q f (y ∷ ys) g h = all_append (f y) (flat f ys) (g y h.0) (all_flat Q f ys g h.1)
+  all_flat Q f (y ∷ ys) g h = all_append (f y) (flat_map f ys) (g y h.0) (all_flat Q f ys g h.1)
 
   pub all_kept : (p : A → Bool) (xs : List A) → All P xs → All (λ x. P x × (p x ≡ true)) (filter p xs)
   all_kept p [] h = tt
@@ -122,10 +125,9 @@ module _ {A : Type 0} (P : A → Type 0) where
   all_both Q [] h g = tt
   all_both Q (x ∷ xs) h g = ((h.0, g.0), all_both Q xs h.1 g.1)
 
-pub each_all : {A : Type 0} (p : A → Bool) (xs : List A) → each p xs ≡ true → All (λ x. p x ≡ true) xs
-unfolding each
+pub each_all : {A : Type 0} (p : A → Bool) (xs : List A) → list_all p xs ≡ true → All (λ x. p x ≡ true) xs
 each_all p [] h = tt
-each_all p (x ∷ xs) h = let b = and_parts (p x) (each p xs) h in (b.0, each_all p xs b.1)
+each_all p (x ∷ xs) h = let b = and_parts (p x) (list_all p xs) h in (b.0, each_all p xs b.1)
 
 pub all_rows : (j n : ℕ) → All (λ r. r < j + n) (rows j n)
 unfolding rows
@@ -169,12 +171,18 @@ total_same n [] = omega arith
 total_same n (x ∷ xs) = let ih = total_same n xs in let e : suc (length xs) * n ≡ n + length xs * n = omega arith in omega arith
 
 -- what passes of each row passes of a row
-pub each_row : (p : ℕ → Bool) (j n i : ℕ) → each p (rows j n) ≡ true → j ≤ i → i < j + n → p i ≡ true
-unfolding each rows
+pub each_row : (p : ℕ → Bool) (j n i : ℕ) → list_all p (rows j n) ≡ true → j ≤ i → i < j + n → p i ≡ true
+unfolding rows
 each_row p j zero i h a b = absurd (omega arith)
 each_row p j (suc n) i h a b =
-    let both = and_parts (p j) (each p (rows (suc j) n)) h in
+    let both = and_parts (p j) (list_all p (rows (suc j) n)) h in
     ⊎_elim
     (λ (e : i ≡ j). ap p e ∙ both.0)
     (λ (e : i ≡ j → ⊥). each_row p (suc j) n i both.1 (omega arith) (omega arith))
     (cases_eq i j)
+
+-- what is summed over events
+pub summed_total : {L : Type 0} (f : Event L → ℕ) (es : List (Event L)) → summed f (stream es) ≡ total f es
+unfolding stream summed total
+summed_total f [] = refl
+summed_total f (e ∷ es) = ap (λ n. f e + n) (summed_total f es)

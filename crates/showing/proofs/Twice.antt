@@ -6,17 +6,19 @@ use Rattle.std.proofs.lemmas.Bool.Decides.{nat_tests}
 use Rattle.std.proofs.lemmas.Bool.{and_parts, and_from, cases_eq, cases_lt, both_ways, not-true, cond_both}
 use Rattle.label.specs.Kind.{Kind}
 use Rattle.text.specs.declared.packed.Name.{Name}
-use Rattle.text.specs.Packed.{pack, spelling}
+use Rattle.text.specs.Packed.{pack, spelling, underscored}
 use Rattle.text.specs.Shapes.{is_name}
 use Rattle.grammar.specs.declared.event.Event.TheVariants as events
-use Rattle.grammar.specs.Reading.{underscored}
+use Rattle.grammar.specs.Reading.{}
 use Rattle.plan.specs.declared.tables.FreeLink.{FreeLink}
 use Rattle.plan.specs.Model.{Model}
 use Rattle.plan.specs.Sound.{count, port_links}
 use Rattle.plan.specs.Sound as sound
-use Rattle.showing.specs.Walk.{Step, atom, enter, leave, flat, whole_walk}
+use Rattle.std.specs.List.{flat_map}
+use Rattle.showing.specs.Walk.{Step, atom, enter, leave, whole_walk}
 use Rattle.showing.specs.Shown.{open_name, step_links, place, firsts, numbered, number_name, or_number, shown_name, set_events, step_events, ties, plan_events}
-use Rattle.showing.specs.Reading.{proper_name, name_standings}
+use Rattle.grammar.specs.Events.{proper_name, name_standings}
+use Rattle.showing.specs.Reading.{names_in, stream}
 use Rattle.showing.proofs.Totals.{count_append, count_kept}
 use Rattle.showing.proofs.Meeting.{Facts, met_links, met_count, met_length}
 use Rattle.showing.proofs.Named.{number_proper, number_same, number_underscored, place_most, place_same, firsts_has, firsts_length, kept_length}
@@ -62,28 +64,28 @@ count_image g x (y ∷ ys) h =
 
 -- the names in events of steps
 
-pub ports_names : (L : Type 0) (name : ℕ → Name) (xs : List ℕ) → name_standings {L = L} (map (λ x. events.Port (name x)) xs) ≡ map (λ x. (name x).packed) xs
-unfolding name_standings
+pub ports_names : (L : Type 0) (name : ℕ → Name) (xs : List ℕ) → names_in {L = L} (map (λ x. events.Port (name x)) xs) ≡ map (λ x. (name x).packed) xs
+unfolding stream name_standings
 ports_names L name [] = refl
 ports_names L name (x ∷ xs) = ap (λ ns. (name x).packed ∷ ns) (ports_names L name xs)
 
-set_names : (L : Type 0) (k : ℕ) → name_standings {L = L} (set_events k) ≡ []
-unfolding name_standings
-set_names L k = cond_both (eqb k 0) [] (events.Set k ∷ []) (λ es. name_standings es ≡ []) (λ _. refl) (λ _. refl)
+set_names : (L : Type 0) (k : ℕ) → names_in {L = L} (set_events k) ≡ []
+unfolding stream name_standings
+set_names L k = cond_both (eqb k 0) [] (events.Set k ∷ []) (λ es. names_in es ≡ []) (λ _. refl) (λ _. refl)
 
-step_names : {L : Type 0} (name : ℕ → Name) (s : Step L) → name_standings (step_events name s) ≡ map (λ x. (name x).packed) (step_links s)
-unfolding name_standings
+step_names : {L : Type 0} (name : ℕ → Name) (s : Step L) → names_in (step_events name s) ≡ map (λ x. (name x).packed) (step_links s)
+unfolding stream name_standings
 step_names {L} name (atom a) = ports_names L name a.links
 step_names {L} name (enter k) = set_names L k
 step_names name leave = refl
 
-pub steps_names : {L : Type 0} (name : ℕ → Name) (ss : List (Step L)) → name_standings (flat (step_events name) ss) ≡ map (λ x. (name x).packed) (flat step_links ss)
-unfolding flat name_standings
+pub steps_names : {L : Type 0} (name : ℕ → Name) (ss : List (Step L)) → names_in (flat_map (step_events name) ss) ≡ map (λ x. (name x).packed) (flat_map step_links ss)
+unfolding stream name_standings
 steps_names name [] = refl
 steps_names name (s ∷ ss) =
-    standings_append (step_events name s) (flat (step_events name) ss)
+    standings_append (step_events name s) (flat_map (step_events name) ss)
     ∙ ap₂ (λ a b. a ++ b) (step_names name s) (steps_names name ss)
-    ∙ sym (map-append (λ x. (name x).packed) (step_links s) (flat step_links ss))
+    ∙ sym (map-append (λ x. (name x).packed) (step_links s) (flat_map step_links ss))
 
 module _ {L : Type 0} (k : Kind L) (m : Model L) (f : Facts k m) where
   pub place_low : (x : ℕ) → place x (numbered m) ≤ 8192
@@ -133,12 +135,12 @@ module _ {L : Type 0} (k : Kind L) (m : Model L) (f : Facts k m) where
   shown_packed x = (shown_name m x).packed
 
   abbrev standing : Name → ℕ
-  standing n = count n.packed (name_standings (plan_events m))
+  standing n = count n.packed (names_in (plan_events m))
 
   pub standing_is : (n : Name) → standing n ≡ count n.packed (map shown_packed (met_links k m f)) + tied L n.packed m.free
   standing_is n =
-      ap (count n.packed) (standings_append (flat (step_events (shown_name m)) (whole_walk m)) (ties m.free) ∙ ap (λ ns. ns ++ name_standings (ties {L = L} m.free)) (steps_names (shown_name m) (whole_walk m)))
-      ∙ count_append n.packed (map shown_packed (met_links k m f)) (name_standings (ties {L = L} m.free))
+      ap (count n.packed) (standings_append (flat_map (step_events (shown_name m)) (whole_walk m)) (ties m.free) ∙ ap (λ ns. ns ++ names_in (ties {L = L} m.free)) (steps_names (shown_name m) (whole_walk m)))
+      ∙ count_append n.packed (map shown_packed (met_links k m f)) (names_in (ties {L = L} m.free))
 
   abbrev Right : Name → Type 0
   Right n = (standing n ≤ 2) × (underscored n ≡ true → standing n ≡ 1 → ⊥)

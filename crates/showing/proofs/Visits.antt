@@ -1,5 +1,6 @@
 -- A walk through a plan meets each atom once.
-use Rattle.std.proofs.Common.{◌≡◌, ℕ, zero, suc, ◌+◌, ◌<◌, ◌≤◌, Bool, true, false, cond, ◌&&◌, ◌||◌, eqb, ltb, leb, List, [], ◌∷◌, ◌++◌, map, length, get_or, Some, None, Option, sym, refl, ap, ◌∙◌, ap₂, ⊎_elim, arith}
+use Rattle.std.proofs.lemmas.Bool.{or_right}
+use Rattle.std.proofs.Common.{◌≡◌, ℕ, zero, suc, ◌+◌, ◌<◌, ◌≤◌, true, cond, ◌&&◌, ◌||◌, eqb, ltb, leb, List, [], ◌∷◌, ◌++◌, map, length, get_or, Some, None, Option, sym, refl, ap, ◌∙◌, ap₂, ⊎_elim, arith}
 use Rattle.std.specs.List.{AllByRecursion as All}
 use Rattle.std.proofs.lemmas.Bool.Decides.{nat_tests}
 use Rattle.std.proofs.lemmas.Bool.{cond-true, cases_Bool, cases_lt, eqb-true, false≢true, or_cases, le-leb, lt-ltb, and_from}
@@ -7,7 +8,8 @@ use Rattle.plan.specs.declared.tables.Cell.{Cell}
 use Rattle.plan.specs.Model.{Model, Node}
 use Rattle.plan.specs.Sound.{count, rows, leads, onward, no_cell}
 use Rattle.plan.proofs.Leads.{past_cells}
-use Rattle.showing.specs.Walk.{Step, atom, enter, leave, flat, has_parent, atoms_in, cells_in, walk}
+use Rattle.std.specs.List.{flat_map}
+use Rattle.showing.specs.Walk.{Step, atom, enter, leave, has_parent, atoms_in, cells_in, walk}
 use Rattle.showing.proofs.Totals.{total, total_append, total_plus, total_alike, total_none, total_flat, total_map, total_swap, count_total, count_kept, count_rows, total_all, total_once, length_total, length_rows, all_flat, all_kept, all_weaker, all_rows}
 
 module _ (cells : List Cell) where
@@ -27,7 +29,7 @@ module _ (cells : List Cell) where
   -- the cells that a walk visits, so many levels down
   unfoldable pub visits : ℕ → ℕ → List ℕ
   visits zero c = []
-  visits (suc n) c = c ∷ flat (visits n) (cells_in c cells)
+  visits (suc n) c = c ∷ flat_map (visits n) (cells_in c cells)
 
   -- a cell is once among those of its parent
   child_once : (i c : ℕ) → count i (cells_in c cells) ≡ cond (has_parent c (parent i)) 1 0
@@ -61,8 +63,8 @@ module _ (cells : List Cell) where
   visited zero i c = refl
   visited (suc n) i c =
       let cs = cells_in c cells in
-      let a : count i (flat (visits n) cs) ≡ up (λ q. passed n q c) (parent i) =
-      count_total i (flat (visits n) cs) ∙ total_flat (λ x. cond (eqb i x) 1 0) (visits n) cs
+      let a : count i (flat_map (visits n) cs) ≡ up (λ q. passed n q c) (parent i) =
+      count_total i (flat_map (visits n) cs) ∙ total_flat (λ x. cond (eqb i x) 1 0) (visits n) cs
       ∙ total_alike (λ r. total (λ x. cond (eqb i x) 1 0) (visits n r)) (passed n i) cs (λ r. sym (count_total i (visits n r)) ∙ visited n i r)
       ∙ passed_children n i c in
       grind (arith, nat_tests)
@@ -87,16 +89,12 @@ module _ (cells : List Cell) where
   leads_more (suc n) i h =
       ⊎_elim
       (λ t. ap (λ v. v || onward (λ p. leads (suc n) cells p) (parent i)) t)
-      (λ o. or_later (eqb i 0) _ (by (parent i) (λ q. leads_more n q) o))
+      (λ o. or_right (eqb i 0) _ (by (parent i) (λ q. leads_more n q) o))
       (or_cases (eqb i 0) (onward (λ p. leads n cells p) (parent i)) h)
     where
       by : (o : Option ℕ) → ((q : ℕ) → leads n cells q ≡ true → leads (suc n) cells q ≡ true) → onward (λ p. leads n cells p) o ≡ true → onward (λ p. leads (suc n) cells p) o ≡ true
       by None f h = h
       by (Some q) f h = f q h
-
-      or_later : (a b : Bool) → b ≡ true → (a || b) ≡ true
-      or_later true b h = refl
-      or_later false b h = h
 
   pub visits_within : (n c : ℕ) → c < length cells → All (λ r. r < length cells) (visits n c)
   unfolding visits
@@ -143,7 +141,7 @@ module _ {L : Type 0} (m : Model L) (w : Node L → ℕ) (u v : ℕ) where
   weighed (suc n) c =
       let cs = cells_in c m.cells in
       let g = weigh w u v in
-      let a = total_append g (map atom (atoms_in c m.atoms)) (flat (around n) cs) in
+      let a = total_append g (map atom (atoms_in c m.atoms)) (flat_map (around n) cs) in
       let b = total_map g atom (atoms_in c m.atoms) in
       let d = total_flat g (around n) cs in
       let e = total_alike (λ r. total g (around n r)) (λ r. total atoms_weight (visits m.cells n r) + total (λ r. u + v) (visits m.cells (suc n) r)) cs (λ r. let x = total_append g (walk n m r) (leave ∷ []) in let ih = weighed n r in omega arith) in

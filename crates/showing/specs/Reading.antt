@@ -1,13 +1,14 @@
 -- Which events have a text that is read back to them.
-use Rattle.std.specs.Prelude.{◌≡◌, ℕ, ◌+◌, ◌-◌, ◌≤◌, Bool, true, false, not, ◌&&◌, List, [], ◌∷◌, length, ◌==◌, ◌≢◌, nat_le, nat_lt}
+use Rattle.std.specs.Prelude.{◌≡◌, ℕ, ◌+◌, ◌≤◌, Bool, true, false, not, ◌&&◌, List, [], ◌∷◌, length, ◌==◌, ◌≢◌, nat_le, nat_lt}
 use Rattle.label.specs.Kind.{Kind}
 use Rattle.text.specs.declared.packed.Name.{Name}
-use Rattle.text.specs.Packed.{pack, spelling}
-use Rattle.text.specs.Shapes.{is_name}
 use Rattle.grammar.specs.declared.event.Event.{Event}
 use Rattle.grammar.specs.declared.event.Event.TheVariants as events
-use Rattle.grammar.specs.Tests.{depth_limit, port_limit, connector_limit, set_limit, text_limit}
-use Rattle.grammar.specs.Reading.{Events, event, end, underscored, hang_events}
+use Rattle.text.specs.Limits.{depth_limit, port_limit, set_limit}
+use Rattle.grammar.specs.Tests.{connector_limit, text_limit}
+use Rattle.text.specs.Packed.{underscored}
+use Rattle.grammar.specs.Reading.{Events, event, end, hang_events}
+use Rattle.grammar.specs.Events.{connectors_in, depth_after, name_standings, proper_name}
 use Rattle.plan.specs.declared.tables.Plan.{Plan}
 use Rattle.plan.specs.Model.{Model, model_of}
 use Rattle.plan.specs.Sound.{Sound, count}
@@ -19,10 +20,6 @@ use Rattle.showing.specs.Shown.{plan_events, shown}
 unfoldable pub stream : {L : Type 0} → List (Event L) → Events L
 stream [] = end
 stream (e ∷ es) = event e (stream es)
-
--- a packed line name
-abbrev pub proper_name : Name → Bool
-proper_name n = is_name (spelling n.packed) && pack (spelling n.packed) == n.packed
 
 -- what stands before an event
 pub data Before : Type 0 where
@@ -77,16 +74,6 @@ then x (events.Set j) = item
 then x (events.First n) = halfway
 then x (events.Second n) = item
 
--- how many cells are open after an event
-abbrev pub depth_after : {L : Type 0} → ℕ → Event L → ℕ
-depth_after d (events.Label l) = d
-depth_after d (events.Port n) = d
-depth_after d events.Enter = d + 1
-depth_after d events.Leave = d - 1
-depth_after d (events.Set j) = d
-depth_after d (events.First n) = d
-depth_after d (events.Second n) = d
-
 -- an event may stand after what stands before it, where so many cells are open; a set stands first in its cell
 abbrev pub may_stand : {L : Type 0} → Kind L → ℕ → Before → Event L → Bool
 may_stand k d x (events.Label l) = whole x && k.mine l
@@ -102,42 +89,22 @@ unfoldable pub in_order : {L : Type 0} → Kind L → ℕ → Before → List (E
 in_order k d x [] = whole x && d == 0
 in_order k d x (e ∷ es) = may_stand k d x e && in_order k (depth_after d e) (then x e) es
 
-abbrev pub event_connectors : {L : Type 0} → Event L → ℕ
-event_connectors (events.Label l) = 0
-event_connectors (events.Port n) = 0
-event_connectors events.Enter = 0
-event_connectors events.Leave = 0
-event_connectors (events.Set j) = 0
-event_connectors (events.First n) = 1
-event_connectors (events.Second n) = 0
-
 -- how many connectors there are
-unfoldable pub connectors : {L : Type 0} → List (Event L) → ℕ
-connectors [] = 0
-connectors (e ∷ es) = event_connectors e + connectors es
-
-abbrev pub event_names : {L : Type 0} → Event L → List ℕ → List ℕ
-event_names (events.Label l) ns = ns
-event_names (events.Port n) ns = n.packed ∷ ns
-event_names events.Enter ns = ns
-event_names events.Leave ns = ns
-event_names (events.Set j) ns = ns
-event_names (events.First n) ns = n.packed ∷ ns
-event_names (events.Second n) ns = n.packed ∷ ns
+abbrev pub connectors : {L : Type 0} → List (Event L) → ℕ
+connectors es = connectors_in (stream es)
 
 -- the standings of names, packed, in their order
-unfoldable pub name_standings : {L : Type 0} → List (Event L) → List ℕ
-name_standings [] = []
-name_standings (e ∷ es) = event_names e (name_standings es)
+abbrev pub names_in : {L : Type 0} → List (Event L) → List ℕ
+names_in es = name_standings (stream es)
 
 -- events of a hang
 pub record Writable {L : Type 0} (k : Kind L) (es : List (Event L)) : Type 0 where
   pub order : in_order k 0 opening es ≡ true
   pub few : connectors es ≤ connector_limit
   -- no name stands a third time
-  pub twice : (n : Name) → count n.packed (name_standings es) ≤ 2
+  pub twice : (n : Name) → count n.packed (names_in es) ≤ 2
   -- no name that begins with _ stands just once
-  pub not_alone : (n : Name) → underscored n ≡ true → count n.packed (name_standings es) ≢ 1
+  pub not_alone : (n : Name) → underscored n ≡ true → count n.packed (names_in es) ≢ 1
 
 -- the text of such events is read to just these, unless it is too long
 abbrev pub ReadsBack : {L : Type 0} → Kind L → Type 0

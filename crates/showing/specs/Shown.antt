@@ -1,5 +1,6 @@
 -- What show writes of a plan.
-use Rattle.std.specs.Prelude.{ℕ, suc, cond, not, List, [], ◌∷◌, ◌++◌, map, length, drop, is_some, Some, None, Ok, Err, decimal, filter, Option, Result, ◌==◌, nat_le}
+use Rattle.std.specs.Prelude.{ℕ, suc, cond, not, List, [], ◌∷◌, ◌++◌, map, length, drop, is_some, Some, None, Ok, Err, decimal, filter, Option, Result, ◌==◌, nat_le, option_map}
+use Rattle.std.specs.List.{find}
 use Rattle.fault.specs.declared.Refusal.TheVariants.{UnsoundPlan, ShortBuffer}
 use Rattle.fault.specs.declared.Fault.{Fault}
 use Rattle.label.specs.Kind.{Kind}
@@ -12,13 +13,13 @@ use Rattle.plan.specs.declared.tables.Plan.{Plan}
 use Rattle.plan.specs.Model.{Model, model_of}
 use Rattle.plan.specs.Tests.{sound_test}
 use Rattle.showing.specs.declared.last.Last.TheVariants as last
-use Rattle.showing.specs.Walk.{Step, atom, enter, leave, flat, whole_walk}
+use Rattle.std.specs.List.{flat_map}
+use Rattle.showing.specs.Walk.{Step, atom, enter, leave, whole_walk}
 use Rattle.showing.specs.Text.{text_of}
 
 -- the open name of a link, if it has one
 unfoldable pub open_name : ℕ → List FreeLink → Option Name
-open_name x [] = None
-open_name x (f ∷ fs) = cond (f.link == x) (Some f.name) (open_name x fs)
+open_name x fs = option_map (λ f. f.name) (find (λ f. f.link == x) fs)
 
 abbrev pub step_links : {L : Type 0} → Step L → List ℕ
 step_links (atom a) = a.links
@@ -41,7 +42,7 @@ firsts xs (y ∷ ys) = firsts (joins xs y) ys
 
 -- the links that go by a number, in the order in which they are first shown
 unfoldable pub numbered : {L : Type 0} → Model L → List ℕ
-numbered m = firsts [] (filter (λ x. not (is_some (open_name x m.free))) (flat step_links (whole_walk m)))
+numbered m = firsts [] (filter (λ x. not (is_some (open_name x m.free))) (flat_map step_links (whole_walk m)))
 
 -- _0, _1 and so on
 abbrev pub number_name : ℕ → Name
@@ -74,7 +75,7 @@ ties (f ∷ fs) = tie f.name (open_name f.link fs) ++ ties fs
 
 -- the events of a plan
 abbrev pub plan_events : {L : Type 0} → Model L → List (Event L)
-plan_events m = flat (step_events (shown_name m)) (whole_walk m) ++ ties m.free
+plan_events m = flat_map (step_events (shown_name m)) (whole_walk m) ++ ties m.free
 
 -- the text of a plan
 abbrev pub shown : {L : Type 0} → Kind L → Model L → List ℕ

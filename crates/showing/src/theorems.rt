@@ -1,18 +1,14 @@
-//! What is proved of the texts of events and of plans. The values that these functions return say nothing.
+//! What is proved of the texts of events and of plans.
 ghost use Rattle.showing.specs.Reading.{ReadsBack, ShownReadable};
 
 use label::kind::Label;
 
 /// The text of a hang's events is read to just these events, unless it is too long.
-pub fn reading_stands<L: Label>() -> u8
+pub fn reading_stands<L: Label>()
     ensures { ReadsBack L.Label.kind }
-{
-    0
-}
+{}
 
 /// What a sound plan shows is a hang that is not too long, and is read to just the events that were shown.
-pub fn showing_stands<L: Label>() -> u8
+pub fn showing_stands<L: Label>()
     ensures { ShownReadable L.Label.kind }
-{
-    0
-}
+{}

@@ -1,5 +1,4 @@
 pub mod Slices
-mod Runs
 pub mod Streams
 pub mod Packing
 pub mod Shapes

@@ -1,27 +1,65 @@
 -- Packing: what one turn of the loop does, and that packing loses nothing.
-use Rattle.std.proofs.Common.{◌≡◌, ℕ, zero, suc, ◌+◌, ◌-◌, ◌*◌, ◌/◌, ◌%◌, ◌^◌, ◌<◌, ◌≤◌, eqb, List, [], ◌∷◌, ◌++◌, length, refl, ap, ◌∙◌, subst, append-nil, add-zero, pow-suc, zero-add, add-one, arith}
-use native.Mathlib.Nat.{pow-le-pow_right}
+use Rattle.std.proofs.Common.{◌≡◌, ℕ, zero, suc, ◌+◌, ◌-◌, ◌*◌, ◌/◌, ◌%◌, ◌^◌, ◌<◌, ◌≤◌, eqb, List, [], ◌∷◌, ◌++◌, length, take, drop, min, replicate, not, sym, refl, ap, ap₂, ◌∙◌, cond, true, false, one-add, subst, append-nil, add-zero, mul_comm, pow-suc, zero-add, arith}
+use native.Mathlib.Nat.{min_comm}
+use Rattle.std.proofs.lemmas.List.{drop-replicate, take_min}
+use Rattle.std.proofs.Math.Nat.{div-div-eq-div-mul}
 use Rattle.std.proofs.lemmas.Bool.{cond-false, ne_eqb}
+use Rattle.std.specs.Int.{w64, from_be_bytes, byte_at, bytes_high_first}
+use Rattle.std.specs.List.{prefix_len}
 use Rattle.text.specs.Packed.{padded, numeral, pack, digits, before_zero, spelling}
 
--- the room for one digit more
-pub room : (n d i : ℕ) → i < 8 → n < 256 ^ i → d < 256 → (n * 256 + d < 256 ^ (i + 1)) × (256 ^ (i + 1) ≤ 2 ^ 64)
-room n d i h small byte =
-    let p : 256 ^ (i + 1) ≡ 256 ^ i * 256 = rw add-one (pow-suc _ _) in
-    let q : 256 ^ (i + 1) ≤ 256 ^ 8 = pow-le-pow_right {n = 256} (omega arith) {i = i + 1} {j = 8} (omega arith) in
-    (omega arith, omega arith)
+-- eight bytes are the number that they write
+pub be_numeral : (bs : List ℕ) → length bs ≡ 8 → from_be_bytes w64 bs ≡ numeral 0 bs
+unfolding numeral
+be_numeral [] l = absurd (omega arith)
+be_numeral (a ∷ []) l = absurd (omega arith)
+be_numeral (a ∷ (b ∷ [])) l = absurd (omega arith)
+be_numeral (a ∷ (b ∷ (c ∷ []))) l = absurd (omega arith)
+be_numeral (a ∷ (b ∷ (c ∷ (d ∷ [])))) l = absurd (omega arith)
+be_numeral (a ∷ (b ∷ (c ∷ (d ∷ (e ∷ []))))) l = absurd (omega arith)
+be_numeral (a ∷ (b ∷ (c ∷ (d ∷ (e ∷ (f ∷ [])))))) l = absurd (omega arith)
+be_numeral (a ∷ (b ∷ (c ∷ (d ∷ (e ∷ (f ∷ (g ∷ []))))))) l = absurd (omega arith)
+be_numeral (a ∷ (b ∷ (c ∷ (d ∷ (e ∷ (f ∷ (g ∷ (h ∷ [])))))))) l = omega arith
+be_numeral (a ∷ (b ∷ (c ∷ (d ∷ (e ∷ (f ∷ (g ∷ (h ∷ (i ∷ more))))))))) l = absurd (omega arith)
 
-pub turn_some : (n i b : ℕ) (bs s : List ℕ) → i < 8 → s ≡ b ∷ bs → numeral n (padded (8 - i) s) ≡ numeral (n * 256 + b) (padded (8 - (i + 1)) bs)
-unfolding numeral padded
-turn_some n i b bs s h f = rw f (let e : 8 - i ≡ suc (8 - (i + 1)) = omega arith in rw e refl)
+-- the first bytes, and zeros after them
+zeros : (k : ℕ) → padded k [] ≡ replicate k 0
+unfolding padded
+zeros zero = refl
+zeros (suc k) = ap (λ t. 0 ∷ t) (zeros k)
 
-pub turn_none : (n i : ℕ) → i < 8 → numeral n (padded (8 - i) []) ≡ numeral (n * 256 + 0) (padded (8 - (i + 1)) [])
-unfolding numeral padded
-turn_none n i h = let e : 8 - i ≡ suc (8 - (i + 1)) = omega arith in rw e refl
+pub padded_is : (k : ℕ) (bs : List ℕ) → padded k bs ≡ take k bs ++ replicate (k - length bs) 0
+unfolding padded
+padded_is zero bs = search arith
+padded_is (suc k) [] = let e : suc k - 0 ≡ suc k = omega arith in rw e (zeros (suc k))
+padded_is (suc k) (b ∷ bs) = let e : suc k - suc (length bs) ≡ k - length bs = omega arith in rw e (ap (λ t. b ∷ t) (padded_is k bs))
 
-pub turns_done : (n : ℕ) (bs : List ℕ) → numeral n (padded 0 bs) ≡ n
-unfolding numeral padded
-turns_done n bs = refl
+pub padded_eight : (bs : List ℕ) (n : ℕ) → n ≡ min (length bs) 8 → take n bs ++ drop n (replicate 8 0) ≡ padded 8 bs
+padded_eight bs n e =
+    let t : take n bs ≡ take 8 bs = rw (e, min_comm (length bs) 8) (take_min 8 bs) in
+    let m : 8 - n ≡ 8 - length bs = omega arith in let d : drop n (replicate 8 0) ≡ replicate (8 - length bs) 0 = drop-replicate n 8 0 ∙ ap (λ k. replicate k 0) m in
+    sym (padded_is 8 bs ∙ ap₂ (λ s t. s ++ t) (sym t) (sym d))
+
+-- the eight bytes of a number
+byte_up : (k n : ℕ) → byte_at k (n / 256) ≡ n / 256 ^ suc k % 256
+byte_up zero n = refl
+byte_up (suc k) n = let e : n / 256 / 256 ^ suc k ≡ n / 256 ^ suc (suc k) = div-div-eq-div-mul n 256 (256 ^ suc k) ∙ ap (λ m. n / m) (sym (pow-suc 256 (suc k) ∙ mul_comm (256 ^ suc k) 256)) in ap (λ x. x % 256) e
+
+digits_more : (k n : ℕ) (after : List ℕ) → bytes_high_first k (n / 256) ++ (n % 256 ∷ after) ≡ bytes_high_first (suc k) n ++ after
+digits_more zero n after = refl
+digits_more (suc k) n after = ap₂ (λ x xs. x ∷ xs) (byte_up k n) (digits_more k n after)
+
+pub digits_be : (k n : ℕ) (after : List ℕ) → digits k n after ≡ bytes_high_first k n ++ after
+unfolding digits
+digits_be zero n after = refl
+digits_be (suc k) n after = digits_be k (n / 256) (n % 256 ∷ after) ∙ digits_more k n after
+
+-- what stands before the first zero
+pub before_run : (bs : List ℕ) → take (prefix_len (λ b. not (eqb b 0)) bs) bs ≡ before_zero bs
+unfolding before_zero
+before_run [] = refl
+before_run (b ∷ bs) =
+    elim (eqb b 0) as (λ v. take (cond (not v) (1 + prefix_len (λ x. not (eqb x 0)) bs) 0) (b ∷ bs) ≡ cond v [] (b ∷ before_zero bs)) [ true ↦ refl | false ↦ rw one-add (ap (λ t. b ∷ t) (before_run bs)) ]
 
 -- bytes of a name: none is zero, each is below 256
 abbrev pub Bytes : List ℕ → Type 0
@@ -64,6 +102,9 @@ cut_padded (suc k) (b ∷ bs) h v =
 none_left : (ds : List ℕ) → digits 0 0 (ds ++ []) ≡ ds
 unfolding digits
 none_left ds = append-nil ds
+
+pub pack_be : (bs : List ℕ) → from_be_bytes w64 (padded 8 bs) ≡ pack bs
+pack_be bs = be_numeral (padded 8 bs) (length_padded 8 bs)
 
 pub spelling_pack : (bs : List ℕ) → length bs ≤ 8 → Bytes bs → spelling (pack bs) ≡ bs
 spelling_pack bs h v =

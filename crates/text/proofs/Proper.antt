@@ -1,6 +1,7 @@
 -- Each token of a text has the bytes of its sort.
-use Rattle.std.proofs.Common.{◌≡◌, ℕ, zero, suc, Bool, true, false, cond, ◌&&◌, eqb, ltb, leb, List, [], ◌∷◌, length, take, Ok, Err, refl, ap, ◌∙◌, arith}
+use Rattle.std.proofs.Common.{◌≡◌, ℕ, zero, suc, ◌+◌, Bool, true, false, cond, ◌&&◌, eqb, ltb, leb, List, [], ◌∷◌, length, take, Ok, Err, refl, ap, ◌∙◌, one-add, arith}
 use Rattle.std.proofs.lemmas.Bool.Decides.{nat_tests}
+use Rattle.std.proofs.lemmas.List.Folds.{length-prefix_len}
 use Rattle.text.specs.declared.class.Class.{Class}
 use Rattle.text.specs.declared.class.Class.TheVariants as classes
 use Rattle.text.specs.declared.token.Sort.{Sort}
@@ -8,18 +9,18 @@ use Rattle.text.specs.declared.token.Sort.TheVariants as sorts
 use Rattle.text.specs.declared.token.Mark.TheVariants.{Turn, Colon}
 use Rattle.fault.specs.declared.Refusal.TheVariants.{NoToken, LongName}
 use Rattle.text.specs.Classes.{class_of, blank, lower, upper, digit, tail, lower_class, upper_class, digit_class}
-use Rattle.text.specs.Shapes.{all, begins, is_number}
-use Rattle.text.specs.Tokens.{Stream, Front, tokens, first, front, by_class, measured, negative, longest, tok, colon, single}
+use Rattle.std.specs.List.{list_all, prefix_len}
+use Rattle.text.specs.Shapes.{begins, is_number}
+use Rattle.text.specs.Tokens.{Stream, Front, tokens, first, front, by_class, measured, negative, tok, colon, single}
 use Rattle.text.specs.Answer.{proper, Proper, TokensProper}
 
--- the bytes of a run pass, and are as many as it says
-run_passes : (p : ℕ → Bool) (bs : List ℕ) → (all p (take (longest p bs) bs) ≡ true) × (length (take (longest p bs) bs) ≡ longest p bs)
-unfolding all longest
-run_passes p [] = (refl, refl)
+-- the bytes of a run pass
+run_passes : (p : ℕ → Bool) (bs : List ℕ) → list_all p (take (prefix_len p bs) bs) ≡ true
+run_passes p [] = refl
 run_passes p (b ∷ bs) =
-    elim (p b) as (λ v. (p b ≡ v) → (all p (take (cond v (suc (longest p bs)) 0) (b ∷ bs)) ≡ true) × (length (take (cond v (suc (longest p bs)) 0) (b ∷ bs)) ≡ cond v (suc (longest p bs)) 0)) [
-      | true ↦ λ e. let ih = run_passes p bs in (ap (λ v. v && all p (take (longest p bs) bs)) e ∙ ih.0, ap suc ih.1)
-      | false ↦ λ e. (refl, refl)
+    elim (p b) as (λ v. (p b ≡ v) → list_all p (take (cond v (1 + prefix_len p bs) 0) (b ∷ bs)) ≡ true) [
+      | true ↦ λ e. rw one-add (ap (λ v. v && list_all p (take (prefix_len p bs) bs)) e ∙ run_passes p bs)
+      | false ↦ λ e. refl
     ] refl
 
 -- where the front is a token, its bytes are proper
@@ -31,15 +32,15 @@ short : (n m : ℕ) → ltb n 8 ≡ true → m ≡ n → leb (suc m) 8 ≡ true
 short n m h e = grind (arith, nat_tests)
 
 -- a first byte and its run are a word or a line name
-named_run : (first : ℕ → Bool) (b : ℕ) (bs : List ℕ) → first b ≡ true → ltb (longest tail bs) 8 ≡ true → begins first tail (b ∷ take (longest tail bs) bs) && leb (suc (length (take (longest tail bs) bs))) 8 ≡ true
+named_run : (first : ℕ → Bool) (b : ℕ) (bs : List ℕ) → first b ≡ true → ltb (prefix_len tail bs) 8 ≡ true → begins first tail (b ∷ take (prefix_len tail bs) bs) && leb (suc (length (take (prefix_len tail bs) bs))) 8 ≡ true
 named_run first b bs e h =
     let r = run_passes tail bs in
-    let s = short (longest tail bs) (length (take (longest tail bs) bs)) h r.1 in
-    rw (e, r.0, s)
+    let s = short (prefix_len tail bs) (length (take (prefix_len tail bs) bs)) h (length-prefix_len tail bs) in
+    rw (e, r, s)
 
-measured_fine : (s : Sort) (b : ℕ) (bs : List ℕ) → (ltb (longest tail bs) 8 ≡ true → proper (tok s (b ∷ take (longest tail bs) bs)) ≡ true) → Fine b bs (measured s (longest tail bs))
+measured_fine : (s : Sort) (b : ℕ) (bs : List ℕ) → (ltb (prefix_len tail bs) 8 ≡ true → proper (tok s (b ∷ take (prefix_len tail bs) bs)) ≡ true) → Fine b bs (measured s (prefix_len tail bs))
 measured_fine s b bs fine =
-    let n = longest tail bs in
+    let n = prefix_len tail bs in
     elim (ltb n 8) as (λ v. (ltb n 8 ≡ v) → Fine b bs (cond v (Ok (s, n)) (Err LongName))) [ true ↦ fine | false ↦ λ h. tt ] refl
 
 digit_not_minus : (b : ℕ) → digit b ≡ true → eqb b 45 ≡ false
@@ -59,22 +60,21 @@ minus_is : (b : ℕ) → class_of b ≡ classes.Minus → eqb b 45 ≡ true
 unfolding class_of
 minus_is b e = let h : minus_class (class_of b) ≡ true = ap minus_class e in grind (arith, nat_tests)
 
-number_fine : (b : ℕ) (bs : List ℕ) → digit b ≡ true → is_number (b ∷ take (longest digit bs) bs) ≡ true
-number_fine b bs e = rw (digit_not_minus b e, e) (run_passes digit bs).0
+number_fine : (b : ℕ) (bs : List ℕ) → digit b ≡ true → is_number (b ∷ take (prefix_len digit bs) bs) ≡ true
+number_fine b bs e = rw (digit_not_minus b e, e) (run_passes digit bs)
 
 -- a run that is not empty begins with what passes
-begins_run : (bs : List ℕ) → (longest digit bs ≡ 0 → ⊥) → begins digit digit (take (longest digit bs) bs) ≡ true
-unfolding all longest
+begins_run : (bs : List ℕ) → (prefix_len digit bs ≡ 0 → ⊥) → begins digit digit (take (prefix_len digit bs) bs) ≡ true
 begins_run [] h = absurd (h refl)
 begins_run (b ∷ bs) h =
-    elim (digit b) as (λ v. (digit b ≡ v) → (cond v (suc (longest digit bs)) 0 ≡ 0 → ⊥) → begins digit digit (take (cond v (suc (longest digit bs)) 0) (b ∷ bs)) ≡ true) [
-      | true ↦ λ e k. rw e (run_passes digit bs).0
+    elim (digit b) as (λ v. (digit b ≡ v) → (cond v (1 + prefix_len digit bs) 0 ≡ 0 → ⊥) → begins digit digit (take (cond v (1 + prefix_len digit bs) 0) (b ∷ bs)) ≡ true) [
+      | true ↦ λ e k. rw (one-add, e) (run_passes digit bs)
       | false ↦ λ e k. absurd (k refl)
     ] refl h
 
-negative_fine : (b : ℕ) (bs : List ℕ) → eqb b 45 ≡ true → Fine b bs (negative (longest digit bs))
+negative_fine : (b : ℕ) (bs : List ℕ) → eqb b 45 ≡ true → Fine b bs (negative (prefix_len digit bs))
 negative_fine b bs e =
-    let n = longest digit bs in
+    let n = prefix_len digit bs in
     elim (eqb n 0) as (λ v. (eqb n 0 ≡ v) → Fine b bs (cond v (Err NoToken) (Ok (sorts.Number, n)))) [
       | true ↦ λ h. tt
       | false ↦ λ h. let z : (n ≡ 0 → ⊥) = grind (arith, nat_tests) in rw e (begins_run bs z)

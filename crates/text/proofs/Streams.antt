@@ -1,6 +1,9 @@
 -- The laws of `tokens`.
-use Rattle.std.proofs.Common.{◌≡◌, ℕ, zero, suc, ◌+◌, ◌<◌, ◌≤◌, true, false, eqb, List, [], ◌∷◌, length, get_or, take, drop, Ok, Err, sym, refl, ap, ◌∙◌, ap₂, add-zero, add-one, arith}
+use Rattle.std.proofs.Common.{◌≡◌, ℕ, zero, suc, ◌+◌, ◌<◌, ◌≤◌, true, false, eqb, List, [], ◌∷◌, length, get_or, take, drop, Ok, Err, sym, refl, ap, ◌∙◌, ap₂, cond, add-zero, add-one, one-add, arith, length-drop}
 use Rattle.std.proofs.lemmas.Bool.{cond-true, cond-false, ne_eqb}
+use Rattle.std.proofs.lemmas.List.{get_or-drop}
+use Rattle.std.proofs.lemmas.List.Sums.{prefix_len_stops}
+use Rattle.std.specs.List.{prefix_len}
 use Rattle.fault.specs.declared.Refusal.{Refusal}
 use Rattle.text.specs.declared.token.Sort.{Sort}
 use Rattle.text.specs.declared.token.Sort.TheVariants as sorts
@@ -21,10 +24,28 @@ unfolding tokens
 tokens_none [] at h = rw add-zero refl
 tokens_none (b ∷ bs) at h = absurd (omega arith)
 
-pub tokens_blank : (s : List ℕ) (at : ℕ) → 0 < length s → blank (get_or s 0 0) ≡ true → tokens 0 at s ≡ tokens 0 (at + 1) (past 1 s)
+-- blanks at the front
+pub tokens_blanks : (s : List ℕ) (at : ℕ) → tokens 0 at s ≡ tokens 0 (at + prefix_len blank s) (drop (prefix_len blank s) s)
 unfolding tokens
-tokens_blank [] at h t = absurd (omega arith)
-tokens_blank (b ∷ bs) at h t = rw (past_is 1 (b ∷ bs), add-one) (cond-true (blank b) _ _ t)
+tokens_blanks [] at = rw add-zero refl
+tokens_blanks (b ∷ bs) at =
+    elim (blank b) as (λ v. (blank b ≡ v) → tokens 0 at (b ∷ bs) ≡ tokens 0 (at + cond v (1 + prefix_len blank bs) 0) (drop (cond v (1 + prefix_len blank bs) 0) (b ∷ bs))) [
+      | true ↦ λ e. (let m : suc at + prefix_len blank bs ≡ at + suc (prefix_len blank bs) = omega arith in cond-true (blank b) _ _ e ∙ tokens_blanks bs (suc at) ∙ rw (one-add, m) refl)
+      | false ↦ λ e. rw add-zero refl
+    ] refl
+
+-- the same at a number that is known to count them
+pub past_blanks : (s : List ℕ) (at n : ℕ) → n ≡ prefix_len blank s → tokens 0 (at + n) (past n s) ≡ tokens 0 at s
+past_blanks s at n e = rw (past_is n s, e) (sym (tokens_blanks s at))
+
+pub only_blanks : (s : List ℕ) (at n : ℕ) → n ≡ prefix_len blank s → n ≤ length s → length (past n s) ≡ 0 → end (at + length s) ≡ tokens 0 at s
+only_blanks s at n e h l =
+    let d = length-drop n s in
+    let p : length (drop n s) ≡ 0 = rw (← past_is n s) l in
+    let m : at + length s ≡ at + n + length (past n s) = omega arith in ap end m ∙ sym (tokens_none (past n s) (at + n) l) ∙ past_blanks s at n e
+
+pub bare_front : (s : List ℕ) (n : ℕ) → n ≡ prefix_len blank s → n < length s → blank (get_or (past n s) 0 0) ≡ false
+bare_front s n e h = rw (past_is n s, get_or-drop n s 0 0, add-zero, e) (prefix_len_stops blank s 0 (rw e at h))
 
 pub tokens_first : (s : List ℕ) (at n : ℕ) (k : Sort) → 0 < length s → blank (get_or s 0 0) ≡ false → front (get_or s 0 0) (drop 1 s) ≡ Ok (k, n) → n < length s → tokens 0 at s ≡ token (tok k (take (n + 1) s)) at (tokens 0 (at + n + 1) (drop (n + 1) s))
 unfolding tokens

@@ -4,3 +4,4 @@ pub mod Packed
 pub mod Numbers
 pub mod Tokens
 pub mod Answer
+pub mod Limits

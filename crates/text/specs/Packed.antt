@@ -1,6 +1,10 @@
 -- Names as numbers: eight bytes, the first highest, zeros after the last.
-use Rattle.std.specs.Prelude.{◌≡◌, ℕ, zero, suc, ◌+◌, ◌*◌, ◌/◌, ◌%◌, Bool, true, false, cond, ◌&&◌, ◌||◌, List, [], ◌∷◌, ◌==◌, nat_lt}
-use Rattle.text.specs.Shapes.{is_word, is_name}
+use Rattle.std.specs.Prelude.{◌≡◌, ℕ, zero, suc, ◌+◌, ◌*◌, ◌/◌, ◌%◌, ◌^◌, Bool, true, false, cond, ◌&&◌, ◌||◌, List, [], ◌∷◌, length, ◌==◌, nat_le, nat_lt}
+use Rattle.text.specs.declared.packed.Name.{Name}
+use Rattle.text.specs.declared.packed.Packing.{Packing}
+use Rattle.text.specs.declared.packed.Packing.TheVariants.{Word, LineName}
+use Rattle.text.specs.Classes.{lower, upper, tail}
+use Rattle.text.specs.Shapes.{begins, name_limit, is_word, is_name}
 
 -- the first k bytes, with zeros after the last
 unfoldable pub padded : ℕ → List ℕ → List ℕ
@@ -30,6 +34,15 @@ before_zero (b ∷ bs) = cond (b == 0) [] (b ∷ before_zero bs)
 abbrev pub spelling : ℕ → List ℕ
 spelling n = before_zero (digits 8 n [])
 
+-- a byte that a word, or a line name, begins with
+abbrev pub heads : Packing → ℕ → Bool
+heads Word = lower
+heads LineName = upper
+
+-- bytes that are a word, or a line name
+abbrev pub spells : Packing → List ℕ → Bool
+spells of bs = begins (heads of) tail bs && nat_le (length bs) name_limit
+
 -- byte order: the first difference decides, and a front comes first
 abbrev pub before : List ℕ → List ℕ → Bool
 before a [] = false
@@ -39,6 +52,10 @@ before (a ∷ rest) (b ∷ bs) = nat_lt a b || (a == b && before rest bs)
 -- a word or a line name
 abbrev pub named : List ℕ → Bool
 named bs = is_word bs || is_name bs
+
+-- a name that begins with `_`
+abbrev pub underscored : Name → Bool
+underscored n = n.packed / 2 ^ 56 == 95
 
 -- packing loses nothing
 abbrev pub Lossless : Type 0

@@ -1,15 +1,12 @@
 -- Which bytes are a word, a line name or a number.
-use Rattle.std.specs.Prelude.{ℕ, Bool, true, false, cond, ◌&&◌, List, [], ◌∷◌, length, ◌==◌, nat_le}
+use Rattle.std.specs.Prelude.{ℕ, Bool, false, cond, ◌&&◌, List, [], ◌∷◌, length, ◌==◌, nat_le}
+use Rattle.std.specs.List.{list_all}
 use Rattle.text.specs.Classes.{lower, upper, digit, tail}
-
-unfoldable pub all : (ℕ → Bool) → List ℕ → Bool
-all p [] = true
-all p (b ∷ bs) = p b && all p bs
 
 -- one byte that passes `first`, and then only such as pass `more`
 abbrev pub begins : (ℕ → Bool) → (ℕ → Bool) → List ℕ → Bool
 begins first more [] = false
-begins first more (b ∷ bs) = first b && all more bs
+begins first more (b ∷ bs) = first b && list_all more bs
 
 -- the most characters of a word or a line name
 abbrev pub name_limit : ℕ

@@ -1,5 +1,6 @@
 -- The tokens of a text, one after another.
-use Rattle.std.specs.Prelude.{ℕ, zero, suc, Bool, cond, List, [], ◌∷◌, take, Ok, Err, Result, ◌==◌, nat_lt}
+use Rattle.std.specs.Prelude.{ℕ, zero, suc, cond, List, [], ◌∷◌, take, Ok, Err, Result, ◌==◌, nat_lt}
+use Rattle.std.specs.List.{prefix_len}
 use Rattle.fault.specs.declared.Refusal.{Refusal}
 use Rattle.fault.specs.declared.Refusal.TheVariants.{NoToken, LongName}
 use Rattle.fault.specs.declared.Fault.{Fault}
@@ -19,11 +20,6 @@ pub data Tok : Type 0 where
   number : List ℕ → Tok
   mark : Mark → Tok
 
--- how many bytes at the front pass
-unfoldable pub longest : (ℕ → Bool) → List ℕ → ℕ
-longest p [] = 0
-longest p (b ∷ bs) = cond (p b) (suc (longest p bs)) 0
-
 -- what stands at the front of a text: a token with so many bytes after its first, or a refusal
 abbrev pub Front : Type 0
 Front = Result (Sort × ℕ) Refusal
@@ -35,6 +31,11 @@ measured s n = cond (nat_lt n name_limit) (Ok (s, n)) (Err LongName)
 -- a number with so many digits after its minus sign
 abbrev pub negative : ℕ → Front
 negative n = cond (n == 0) (Err NoToken) (Ok (Number, n))
+
+-- a refusal at its place
+abbrev pub placed : ℕ → Front → Result (Sort × ℕ) Fault
+placed at (Ok f) = Ok f
+placed at (Err r) = Err (record { refusal = r; place = at })
 
 abbrev pub colon : List ℕ → Front
 colon [] = Ok (sorts.Mark Colon, 0)
@@ -55,10 +56,10 @@ single b =
 
 abbrev pub by_class : Class → ℕ → List ℕ → Front
 by_class classes.Blank b bs = Err NoToken
-by_class classes.Lower b bs = measured Word (longest tail bs)
-by_class classes.Upper b bs = measured LineName (longest tail bs)
-by_class classes.Digit b bs = Ok (Number, longest digit bs)
-by_class classes.Minus b bs = negative (longest digit bs)
+by_class classes.Lower b bs = measured Word (prefix_len tail bs)
+by_class classes.Upper b bs = measured LineName (prefix_len tail bs)
+by_class classes.Digit b bs = Ok (Number, prefix_len digit bs)
+by_class classes.Minus b bs = negative (prefix_len digit bs)
 by_class classes.Mark b bs = cond (b == 58) (colon bs) (Ok (sorts.Mark (single b), 0))
 by_class classes.Other b bs = Err NoToken
 

@@ -1,6 +1,6 @@
 //! The class of a byte.
 ghost use Rattle.std.specs.Prelude.{◌≡◌};
-ghost use Rattle.text.specs.Classes.{class_of, mark, passes, blank};
+ghost use Rattle.text.specs.Classes.{class_of, passes, blank};
 
 /// What a byte is to the lexer.
 #[derive(Clone, Copy, PartialEq, Eq, Debug)]
@@ -22,33 +22,19 @@ pub enum Class {
 }
 
 /// The class of a byte, told by tests.
+#[tactic(auto, unfolding(crate::specs::Classes::class_of))]
 pub fn class_of(b: u8) -> Class
     ensures { result ≡ class_of b }
 {
-    if b == 9 || b == 10 || b == 13 || b == 32 {
-        Class::Blank
-    } else if b >= b'a' && b <= b'z' {
-        Class::Lower
-    } else if b == b'_' || (b >= b'A' && b <= b'Z') {
-        Class::Upper
-    } else if b >= b'0' && b <= b'9' {
-        Class::Digit
-    } else if b == b'-' {
-        Class::Minus
-    } else if is_mark(b) {
-        Class::Mark
-    } else {
-        Class::Other
+    match b {
+        b'\t' | b'\n' | b'\r' | b' ' => Class::Blank,
+        b'a'..=b'z' => Class::Lower,
+        b'_' | b'A'..=b'Z' => Class::Upper,
+        b'0'..=b'9' => Class::Digit,
+        b'-' => Class::Minus,
+        b'(' | b')' | b'{' | b'}' | b',' | b'.' | b':' | b'=' | b'$' | b'@' => Class::Mark,
+        _ => Class::Other,
     }
-}
-
-fn is_mark(b: u8) -> bool
-    ensures { result ≡ mark b }
-{
-    matches!(
-        b,
-        b'(' | b')' | b'{' | b'}' | b',' | b'.' | b':' | b'=' | b'$' | b'@'
-    )
 }
 
 /// Whether a byte separates tokens.

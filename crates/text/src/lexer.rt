@@ -2,7 +2,8 @@
 ghost use Rattle.std.specs.Prelude.{◌≡◌, ℕ, ◌+◌, ◌^◌, ◌<◌, ◌≤◌, true, false, length, IfOk, ◌==◌, slice_index};
 ghost use Rattle.text.specs.declared.class.Class.TheVariants as classes;
 ghost use Rattle.text.specs.Classes.{class_of, blank, passes};
-ghost use Rattle.text.specs.Tokens.{longest, single, tokens, front, measured, negative, tok};
+ghost use Rattle.std.specs.List.{list_all, prefix_len};
+ghost use Rattle.text.specs.Tokens.{single, tokens, front, measured, negative, placed, tok};
 ghost use Rattle.text.specs.Answer.{Ahead, GoesOn, TokensProper, answer, begun, shape};
 
 use crate::class::{Class, Run, class_of, goes_on, is_blank};
@@ -11,19 +12,25 @@ use fault::{Fault, Refusal};
 
 /// How many bytes at the front are of a run.
 pub fn run_length(run: Run, text: &[u8]) -> usize
-    ensures count { result ≡ longest (passes run) text.now }
+    ensures count { result ≡ prefix_len (passes run) text.now }
     ensures within { result ≤ length text.now }
 {
-    let mut n = 0;
-    let mut rest = text;
-    while let [b, after @ ..] = rest {
-        if !goes_on(run, *b) {
-            break;
-        }
-        n += 1;
-        rest = after;
-    }
-    n
+    text.iter().take_while(|b| goes_on(run, **b)).count()
+}
+
+/// Whether all bytes are of a run.
+pub fn is_run(run: Run, bytes: &[u8]) -> bool
+    ensures { result ≡ list_all (passes run) bytes.now }
+{
+    bytes.iter().all(|b| goes_on(run, *b))
+}
+
+/// How many bytes at the front separate tokens.
+fn blank_length(text: &[u8]) -> usize
+    ensures count { result ≡ prefix_len blank text.now }
+    ensures within { result ≤ length text.now }
+{
+    text.iter().take_while(|b| is_blank(**b)).count()
 }
 
 /// The mark of one byte, other than the colon.
@@ -81,6 +88,15 @@ fn front_of(b: u8, after: &[u8]) -> Result<(Sort, usize), Refusal>
     }
 }
 
+/// The same, with a refusal at its place.
+fn front_at(b: u8, after: &[u8], place: usize) -> Result<(Sort, usize), Fault>
+    requires { (b == 58) ≡ false }
+    ensures is { result ≡ placed place (front b after.now) }
+    ensures within { IfOk result (λ p. p.1 ≤ length after.now) }
+{
+    front_of(b, after).map_err(|refusal| refusal.at(place))
+}
+
 fn token_of<'t>(sort: Sort, bytes: &'t [u8]) -> Token<'t>
     ensures { shape result ≡ tok sort bytes.now }
 {
@@ -113,18 +129,16 @@ fn begin<'t>(text: &'t [u8], place: usize) -> Result<Found<'t>, Fault>
             rest,
             next: place + 1,
         }),
-        [b, after @ ..] => match front_of(*b, after) {
-            Ok((sort, more)) => {
-                let (bytes, rest) = text.split_at(more + 1);
-                Ok(Found {
-                    token: token_of(sort, bytes),
-                    place,
-                    rest,
-                    next: place + more + 1,
-                })
-            }
-            Err(refusal) => Err(Fault { refusal, place }),
-        },
+        [b, after @ ..] => {
+            let (sort, more) = front_at(*b, after, place)?;
+            let (bytes, rest) = text.split_at(more + 1);
+            Ok(Found {
+                token: token_of(sort, bytes),
+                place,
+                rest,
+                next: place + more + 1,
+            })
+        }
         [] => unreachable(),
     }
 }
@@ -135,21 +149,15 @@ pub fn next_token<'t>(text: &'t [u8], at: usize) -> Result<Option<Found<'t>>, Fa
     ensures is { answer (at + length text.now) result ≡ tokens 0 at text.now }
     ensures ahead { GoesOn at text.now result }
 {
-    let mut rest = text;
-    let mut place = at;
-    while let [b, after @ ..] = rest {
-        if !is_blank(*b) {
-            return Ok(Some(begin(rest, place)?));
-        }
-        rest = after;
-        place += 1;
+    let blanks = blank_length(text);
+    let rest = &text[blanks..];
+    if rest.is_empty() {
+        return Ok(None);
     }
-    Ok(None)
+    Ok(Some(begin(rest, at + blanks)?))
 }
 
 /// Each token of a text has the bytes of its sort.
-pub fn tokens_stand() -> u8
+pub fn tokens_stand()
     ensures { TokensProper }
-{
-    0
-}
+{}

@@ -3,6 +3,7 @@
 
 pub mod class;
 pub mod lexer;
+pub mod limits;
 pub mod number;
 pub mod packed;
 pub mod token;

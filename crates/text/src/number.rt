@@ -1,17 +1,33 @@
 //! The value of digits.
-ghost use Rattle.std.specs.Prelude.{◌≡◌, min};
+ghost use Rattle.std.specs.Prelude.{◌≡◌, ◌+◌, ◌-◌, ◌*◌, min};
+ghost use Rattle.text.specs.Classes.{digit};
 ghost use Rattle.text.specs.Numbers.{digits_value};
+ghost use Rattle.text.specs.Shapes.{begins};
+
+use crate::class::Run;
+use crate::lexer::is_run;
+
+/// A number with one digit more, or the highest `u32` where that is more.
+fn with_digit(n: u32, b: u8) -> u32
+    ensures { result ≡ min (n * 10 + (b - 48)) 4294967295 }
+{
+    n.saturating_mul(10)
+        .saturating_add(u32::from(b.saturating_sub(48)))
+}
+
+/// Whether bytes are one digit or more, and nothing else.
+#[tactic(auto, using(crate::proofs::Shapes::begins_whole))]
+pub fn is_digits(bytes: &[u8]) -> bool
+    ensures { result ≡ begins digit digit bytes.now }
+{
+    !bytes.is_empty() && is_run(Run::Digits, bytes)
+}
 
 /// The number that digits write, of any length, or `cap` where it is more.
 pub fn value_up_to(cap: u32, digits: &[u8]) -> u32
     ensures { result ≡ min (digits_value 0 digits.now) cap }
 {
-    let mut n: u32 = 0;
-    let mut rest = digits;
-    while let [b, after @ ..] = rest {
-        let wide = n as u64 * 10 + b.saturating_sub(48) as u64;
-        n = if wide < cap as u64 { wide as u32 } else { cap };
-        rest = after;
-    }
-    n
+    digits
+        .iter()
+        .fold(0, |n: u32, b| with_digit(n, *b).min(cap))
 }

@@ -1,22 +1,24 @@
-use Rattle.std.proofs.Common.{◌≡◌, ◌+◌, ◌*◌, ◌<◌, true, length, arith, rules}
-use Rattle.text.specs.Classes.{digit}
-use Rattle.text.specs.Shapes.{begins}
-use Rattle.bigvosk.proofs.Counting.{number_none, number_is, number_over}
+use Rattle.std.proofs.Common.{sym, ◌∙◌, arith}
+use Rattle.bigvosk.proofs.Counting.{is_text, no_text, not_digits, number_is, number_none, the_text}
 use Rattle.bigvosk.proofs.numbers.number_up_to.Goals as goal
 
-pub returns-then-not-is_number : goal.returns-then-not-is_number
-returns-then-not-is_number c = search (rules, number_none)
+pub returns-then-not-are_digits : goal.returns-then-not-are_digits
+returns-then-not-are_digits c = not_digits c.args.most c.args.bytes.now (sym c.if-not-are_digits.ensures)
 
-pub returns-then-wide-most : goal.returns-then-wide-most
-returns-then-wide-most c =
-    let s = c.args.bytes.now in
-    let t : begins digit digit s ≡ true = search rules in
-    let some : 0 < length s = search rules in
-    number_is c.args.most s (c.value_up_to.result * 10 + c.saturating_sub.result) t some (omega arith) (omega arith) c.if-wide-most.true
+pub returns-in_err-text : goal.returns-in_err-text
+returns-in_err-text c =
+    absurd (no_text _ _ _ c.from_utf8.result (sym c.ok.ensures.value ∙ c.in_err-text.was) c.from_utf8.ensures.cases (is_text c.args.most c.args.bytes.now (sym c.if-not-are_digits.ensures)))
 
-pub returns-else-wide-most : goal.returns-else-wide-most
-returns-else-wide-most c =
+pub returns-in_err-number : goal.returns-in_err-number
+returns-in_err-number c =
     let s = c.args.bytes.now in
-    let t : begins digit digit s ≡ true = search rules in
-    let some : 0 < length s = search rules in
-    number_over c.args.most s (c.value_up_to.result * 10 + c.saturating_sub.result) t some (omega arith) (omega arith) c.if-wide-most.false
+    let same = the_text _ _ s c.in_ok-text.text c.from_utf8.result (sym c.ok.ensures.value ∙ c.in_ok-text.was) c.from_utf8.ensures.cases in
+    c.from_residual-in_err-number.ensures
+    ∙ number_none c.args.most s (sym c.if-not-are_digits.ensures) (omega arith) c.parse.result (rw same at c.parse.ensures.value.0) (sym c.ok-2.ensures.value ∙ c.in_err-number.was)
+
+pub returns : goal.returns
+returns c =
+    let s = c.args.bytes.now in
+    let same = the_text _ _ s c.in_ok-text.text c.from_utf8.result (sym c.ok.ensures.value ∙ c.in_ok-text.was) c.from_utf8.ensures.cases in
+    c.then_some.ensures
+    ∙ number_is c.args.most s (sym c.if-not-are_digits.ensures) (omega arith) c.parse.result (rw same at c.parse.ensures.value.0) c.in_ok-number.number (sym c.ok-2.ensures.value ∙ c.in_ok-number.was)

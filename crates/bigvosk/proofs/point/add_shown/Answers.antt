@@ -1,9 +1,12 @@
 use Rattle.std.proofs.Common.{rules}
-use Rattle.bigvosk.proofs.Adding.{shown_on, shown_none}
+use Rattle.std.proofs.lemmas.Iterator.{YieldsList-from_map, YieldsList-from_slice}
+use Rattle.std.proofs.lemmas.Iterator.Adapters.{items_from_extend}
+use Rattle.bigvosk.specs.Windows.{shown_byte}
 use Rattle.bigvosk.proofs.point.add_shown.Goals as goal
 
-pub loop-rest-preserved : goal.loop-rest-preserved
-loop-rest-preserved c = search (rules, shown_on)
-
 pub returns : goal.returns
-returns c = search (rules, shown_none)
+returns c =
+    let h =
+    items_from_extend c.extend.result c.extend.ensures.ran
+    (YieldsList-from_map _ shown_byte (YieldsList-from_slice c.args.part.now (cc)) c.map.ensures.closure (λ x r q k. search rules)) in
+    search rules

@@ -6,7 +6,7 @@ use Rattle.grammar.proofs.pull.finish.Goals as goal
 
 pub returns-then-not-may_end : goal.returns-then-not-may_end
 returns-then-not-may_end g c =
-    record { is = sym (cond-false _ _ _ (sym (c.may_end.ensures (names_of c.args.names.now)) ∙ c.if-not-may_end.true)) }
+    rw c.at.ensures (record { is = sym (cond-false _ _ _ (sym (c.may_end.ensures (names_of c.args.names.now)) ∙ c.if-not-may_end.true)) })
 
 pub returns-in-None : goal.returns-in-None
 returns-in-None g c =
@@ -14,4 +14,4 @@ returns-in-None g c =
 
 pub returns-in-Some : goal.returns-in-Some
 returns-in-Some g c =
-    record { is = sym (cond-true _ _ _ (sym (c.may_end.ensures (names_of c.args.names.now)) ∙ c.if-not-may_end.false) ∙ ap unless_lone (sym c.in-Some.ensures)) }
+    rw c.at-in-Some.ensures (record { is = sym (cond-true _ _ _ (sym (c.may_end.ensures (names_of c.args.names.now)) ∙ c.if-not-may_end.false) ∙ ap unless_lone (sym c.in-Some.ensures)) })

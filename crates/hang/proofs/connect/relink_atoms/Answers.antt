@@ -1,25 +1,19 @@
-use Rattle.std.proofs.Common.{◌≡◌, ◌<◌, leb, map, length, take, set, sym, ap, ◌∙◌, arith}
+use Rattle.std.proofs.Common.{◌≡◌, ℕ, leb, List, get_or, map, ap, ◌∙◌}
+use Rattle.std.specs.List.{list_all}
 use Rattle.plan.specs.Model.{node_of}
-use Rattle.plan.specs.Sound.{each}
-use Rattle.std.proofs.lemmas.List.Edits.{map_over_more}
-use Rattle.hang.proofs.Relinking.{arities_kept, map_front, nodes_relinked, relinked_atom}
+use Rattle.hang.proofs.Relinking.{arities_kept, map_done, map_next, nodes_relinked, relinked_atom}
 use Rattle.hang.proofs.connect.relink_atoms.Goals as goal
 
-pub loop-i-preserved : goal.loop-i-preserved
-loop-i-preserved g c =
-    let f = relinked_atom {L = g.row.L.Denot} c.args.became.now in
-    let near : c.loop-i.i < length c.args.atoms.now = omega arith in
-    ap (set c.loop-i.atoms c.loop-i.i) c.relink.ensures
-    ∙ map_over_more f c.args.atoms.now c.loop-i.atoms c.loop-i.i c.index-atoms-i.result near c.loop-i.invariant c.index-atoms-i.is
+pub loop-atom-preserved : goal.loop-atom-preserved
+loop-atom-preserved g c =
+    let d = c.atom-item.result in
+    let a = get_or c.loop-atom.atoms c.loop-atom.atom-index d in
+    map_next (relinked_atom c.args.became.now) c.args.atoms.now c.loop-atom.atoms c.loop-atom.atom-index d _ c.loop-atom-test.true c.loop-atom.auto.atoms c.loop-atom.invariant
+    (ap (λ (t : List ℕ). record { label = a.label; cell = a.cell; arity = a.arity; links = t }) c.relink_ports.ensures)
 
 pub returns : goal.returns
 returns g c =
-    let f = relinked_atom {L = g.row.L.Denot} c.args.became.now in
+    let became = c.args.became.now in
     let atoms = c.args.atoms.now in
-    let n : c.loop-i.i ≡ c.args.count = omega arith in
-    let front : take c.args.count c.loop-i.atoms ≡ map f (take c.args.count atoms) =
-    ap (λ j. take j c.loop-i.atoms) (sym n) ∙ map_front f atoms c.loop-i.atoms c.loop-i.i (omega arith) c.loop-i.invariant ∙ ap (λ j. map f (take j atoms)) n in
-    record {
-      atoms = ap (map node_of) front ∙ nodes_relinked c.args.became.now (take c.args.count atoms);
-      fit = ap (each (λ a. leb a.arity 8)) front ∙ arities_kept c.args.became.now (take c.args.count atoms) ∙ c.requires.fit;
-    }
+    let all : c.loop-atom.atoms ≡ map (relinked_atom became) atoms = map_done (relinked_atom became) atoms c.loop-atom.atoms c.loop-atom.atom-index c.loop-atom-test.false c.loop-atom.invariant in
+    record { atoms = ap (map node_of) all ∙ nodes_relinked became atoms; fit = ap (list_all (λ a. leb a.arity 8)) all ∙ arities_kept became atoms }

@@ -1,14 +1,17 @@
-use Rattle.std.proofs.Common.{◌≡◌, take, arith}
-use Rattle.plan.specs.Model.{model_of}
-use Rattle.placing.specs.Links.{unused}
-use Rattle.hang.proofs.Assigning.{linked_parts, unused_parts}
+use Rattle.std.proofs.Common.{length, take, ap, ◌∙◌}
+use Rattle.grammar.specs.Names.{names_of}
+use Rattle.placing.specs.Links.{links_from}
+use Rattle.placing.proofs.KeepNames.{length_links}
+use Rattle.hang.proofs.Linking.{linked_names}
 use Rattle.hang.proofs.names.link_names.Goals as goal
 
-pub slice_bounds-assign_links-end-3 : goal.slice_bounds-assign_links-end-3
-slice_bounds-assign_links-end-3 g c = let k = c.list_unused-n.auto.out in let f = c.list_unused-n.ensures.few in omega arith
+pub invariant_of-result : goal.invariant_of-result
+invariant_of-result g c =
+    let free = take c.args.plan.now.free_count c.args.plan.now.free.now in
+    record { same = ap length c.assign_links-links.ensures ∙ length_links free c.deref-2.result.now c.deref.result.now ∙ ap length c.deref.ensures.0 }
 
-pub returns : goal.returns
-returns g c =
-    let p = c.args.plan.now in
-    let numbers : take c.list_unused-n.result c.list_unused-n.new.out ≡ unused (model_of p) = unused_parts p (take c.list_unused-n.result c.list_unused-n.new.out) c.list_unused-n.ensures.numbers in
-    linked_parts c.args.names.now.table c.args.names.now.count p.free.now p.free_count c.list_unused-n.new.out c.list_unused-n.result (unused (model_of p)) c.assign_links.new.links numbers c.assign_links.ensures
+pub returns-clause-links : goal.returns-clause-links
+returns-clause-links g c =
+    let free = take c.args.plan.now.free_count c.args.plan.now.free.now in
+    c.assign_links-links.ensures ∙ ap (links_from free c.deref-2.result.now) c.deref.ensures.0
+    ∙ linked_names c.args.plan.now (names_of c.args.names.now) c.deref-2.result.now (c.deref-2.ensures.0 ∙ c.list_unused-unused.ensures)

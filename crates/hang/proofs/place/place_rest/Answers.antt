@@ -12,7 +12,7 @@ use Rattle.hang.proofs.place.place_rest.Goals as goal
 pub place_event-requires : goal.place_event-requires
 place_event-requires g c =
     let k = g.L.Label.kind in
-    let link = link_at (names_of c.args.names.now) c.args.links.now in
+    let link = link_at (names_of c.args.linked.now.names.now) c.args.linked.now.links.items in
     let gives : event c.in-Some.event (left k c.next_event.new.reader) ≡ left k c.loop-event.reader = c.in-Some.ensures.0 in
     ready k link c.loop-event.plan c.loop-event.hand c.in-Some.event (left k c.next_event.new.reader)
     (subst (λ es. Placeable k link c.loop-event.plan c.loop-event.hand es) (sym gives) c.loop-event.invariant.0)
@@ -20,7 +20,7 @@ place_event-requires g c =
 pub loop-event-preserved : goal.loop-event-preserved
 loop-event-preserved g c =
     let k = g.L.Label.kind in
-    let link = link_at (names_of c.args.names.now) c.args.links.now in
+    let link = link_at (names_of c.args.linked.now.names.now) c.args.linked.now.links.items in
     let e = c.in-Some.event in
     let rest = left k c.next_event.new.reader in
     let p = c.loop-event.plan in
@@ -37,5 +37,5 @@ loop-event-preserved g c =
 pub returns : goal.returns
 returns g c =
     let k = g.L.Label.kind in
-    let link = link_at (names_of c.args.names.now) c.args.links.now in
+    let link = link_at (names_of c.args.linked.now.names.now) c.args.linked.now.links.items in
     record { is = sym (all_halted k link (placing_of c.loop-event.plan c.loop-event.hand) (left k c.loop-event.reader) c.in_default.ensures.0) ∙ c.loop-event.invariant.1; beside = c.loop-event.invariant.2 }

@@ -8,9 +8,9 @@ use Rattle.hang.proofs.place.place_rest.Given as goal
 
 abbrev pub invariant-loop-event : goal.invariant-loop-event
 invariant-loop-event g l =
-    Placeable g.L.Label.kind (link_at (names_of l.names) l.links) l.plan l.hand (left g.L.Label.kind l.reader)
-    × (place_all g.L.Label.kind (link_at (names_of l.names) l.links) (placing_of l.plan l.hand) (left g.L.Label.kind l.reader)
-    ≡ place_all g.L.Label.kind (link_at (names_of l.names) l.links) (placing_of l.initial.plan l.initial.hand) (left g.L.Label.kind l.initial.reader))
+    Placeable g.L.Label.kind (link_at (names_of l.linked.names.now) l.linked.links.items) l.plan l.hand (left g.L.Label.kind l.reader)
+    × (place_all g.L.Label.kind (link_at (names_of l.linked.names.now) l.linked.links.items) (placing_of l.plan l.hand) (left g.L.Label.kind l.reader)
+    ≡ place_all g.L.Label.kind (link_at (names_of l.linked.names.now) l.linked.links.items) (placing_of l.initial.plan l.initial.hand) (left g.L.Label.kind l.initial.reader))
     × Beside l.initial.plan l.plan
 
 abbrev pub decreases-loop-event : goal.decreases-loop-event

@@ -1,16 +1,16 @@
-use Rattle.std.proofs.Common.{arith}
-use Rattle.order.proofs.Search.{found, more, none_above}
+use Rattle.std.proofs.Common.{ℕ, ◌+◌, sym, subst, rules}
+use Rattle.std.proofs.iter.runs.Sources.{ranges}
+use Rattle.std.specs.Iterator.Runs.{ItemsCountDown}
+use Rattle.order.specs.Divisors.{Stride}
+use Rattle.order.proofs.Search.{apart_by, found, gcd_one}
 use Rattle.order.proofs.stride.stride.Goals as goal
-
-pub loop-g-preserved : goal.loop-g-preserved
-loop-g-preserved c =
-    let n = c.args.n in
-    let h = c.args.h in
-    let g = c.loop-g.g in
-    let r = c.gcd.result in
-    let above = more n h g r c.gcd.ensures c.loop-g-test.true c.loop-g.invariant.2 c.loop-g.invariant.0 in
-    (omega arith, omega arith, none_above n h g r c.gcd.ensures c.loop-g-test.true c.loop-g.invariant.2)
 
 pub returns : goal.returns
 returns c =
-    found c.args.n c.args.h c.loop-g.g c.gcd.result c.gcd.ensures c.loop-g-test.false c.loop-g.invariant.1 c.loop-g.invariant.2
+    let n = c.args.n in
+    let h = c.args.h in
+    let run = c.find.ensures.runs.0 in
+    let down : ItemsCountDown run 1 (h + 1) = search (rules, ranges) in
+    let is =
+    found _ _ n h run c.requires down (λ a r f' e. search rules) (λ x e. search (rules, gcd_one)) (λ x e. search (rules, apart_by)) c.find.result c.find.ensures.runs.2 in
+    subst (λ (g : ℕ). Stride n h g) (sym c.unwrap_or.ensures) is

@@ -1,14 +1,9 @@
-use Rattle.std.proofs.Common.{sym, ◌∙◌, rules}
-use Rattle.plan.proofs.Census.{ascending_on, ascending_none}
+use Rattle.std.proofs.Common.{rules}
+use Rattle.std.proofs.lemmas.Fn.{always_returns_same}
+use Rattle.plan.proofs.Placing.{neighbours}
 use Rattle.plan.proofs.register.ascends.Goals as goal
 
-pub returns-then-not-is_below : goal.returns-then-not-is_below
-returns-then-not-is_below g c =
-    let h = ascending_on g.L.Label.kind c.row-item.result c.loop-rest.rest.now (search rules) c.row-item.is in search rules
-
-pub loop-rest-preserved : goal.loop-rest-preserved
-loop-rest-preserved g c =
-    let h = ascending_on g.L.Label.kind c.row-item.result c.loop-rest.rest.now (search rules) c.row-item.is in search rules
-
 pub returns : goal.returns
-returns g c = sym (ascending_none g.L.Label.kind c.loop-rest.rest.now (search rules)) ∙ c.loop-rest.invariant
+returns g c =
+    let k = g.L.Label.kind in
+    neighbours k c.args.rows.now c.is_sorted_by.result (c.is_sorted_by.ensures.cases (λ row next. k.lower row.label next.label) (always_returns_same _ _ _ (λ a r next called. search rules)))

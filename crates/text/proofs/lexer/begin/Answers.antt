@@ -20,20 +20,21 @@ returns-in-58-2 c =
     let b : (1 < length s → get_or s 1 0 ≡ 45 → ⊥) = search rules in
     record { is = sym (tokens_colon s c.args.place h a b); ahead = search rules }
 
-pub returns-in-Ok : goal.returns-in-Ok
-returns-in-Ok c =
+pub returns-in_ok-sort-in-len1-up : goal.returns-in_ok-sort-in-len1-up
+returns-in_ok-sort-in-len1-up c =
     let s = c.args.text.now in
     let p = past_is 1 s in
-    let f : front (get_or s 0 0) (drop 1 s) ≡ Ok (c.in-Ok.sort, c.in-Ok.more) = ap (front (get_or s 0 0)) (sym p) ∙ sym c.in-Ok.ensures.is in
-    let l : c.in-Ok.more < length s = search rules in
-    let t = tokens_first s c.args.place c.in-Ok.more c.in-Ok.sort c.requires.some c.requires.bare f l in
+    let f : front (get_or s 0 0) (drop 1 s) ≡ Ok (c.in_ok-sort-in-len1-up.sort, c.in_ok-sort-in-len1-up.more) = ap (front (get_or s 0 0)) (sym p) ∙ search rules in
+    let l : c.in_ok-sort-in-len1-up.more < length s = search rules in
+    let t = tokens_first s c.args.place c.in_ok-sort-in-len1-up.more c.in_ok-sort-in-len1-up.sort c.requires.some c.requires.bare f l in
     let a = c.split_at.ensures.front in
     let b = c.split_at.ensures.back in
     let k = c.token_of.ensures in
     record { is = cc; ahead = search rules }
 
-pub returns-in-Err : goal.returns-in-Err
-returns-in-Err c =
+pub returns-in_err-sort-in-len1-up : goal.returns-in_err-sort-in-len1-up
+returns-in_err-sort-in-len1-up c =
     let s = c.args.text.now in
-    let f : front (get_or s 0 0) (drop 1 s) ≡ Err c.in-Err.refusal = ap (front (get_or s 0 0)) (sym (past_is 1 s)) ∙ sym c.in-Err.ensures.is in
-    record { is = sym (tokens_fault s c.args.place _ c.requires.some c.requires.bare f); ahead = tt }
+    let f : front (get_or s 0 0) (drop 1 s) ≡ Err c.in_err-sort-in-len1-up.field-0.0.refusal = ap (front (get_or s 0 0)) (sym (past_is 1 s)) ∙ search rules in
+    let t = tokens_fault s c.args.place _ c.requires.some c.requires.bare f in
+    record { is = search rules; ahead = search rules }

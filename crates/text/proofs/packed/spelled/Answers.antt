@@ -1,21 +1,10 @@
-use Rattle.std.proofs.Common.{◌≡◌, suc, ◌+◌, ◌-◌, ◌%◌, [], length, set, sym, ap, ◌∙◌, arith, length-set}
-use Rattle.text.specs.Packed.{digits, before_zero}
-use Rattle.text.proofs.Shapes.{digit_more, digits_done}
+use Rattle.std.proofs.Common.{◌≡◌, ◌∙◌, [], sym, refl, append-nil}
+use Rattle.text.specs.Packed.{digits}
+use Rattle.text.proofs.Packing.{digits_be, before_run}
 use Rattle.text.proofs.packed.spelled.Goals as goal
-
-pub loop-i-preserved : goal.loop-i-preserved
-loop-i-preserved c =
-    let i = c.loop-i.i in
-    let n = c.loop-i.n in
-    let bs = c.loop-i.bytes in
-    let e : 8 - i ≡ suc (7 - i) = omega arith in
-    let f : 8 - (i + 1) ≡ 7 - i = omega arith in
-    let m = digit_more (7 - i) n bs (omega arith) in
-    let l : length (set bs (7 - i) (n % 256)) ≡ 8 = length-set bs (7 - i) (n % 256) ∙ c.loop-i.invariant.0 in
-    (l, rw f (sym m ∙ rw (← e) c.loop-i.invariant.1))
 
 pub returns : goal.returns
 returns c =
-    let e : c.loop-i.i ≡ 8 = omega arith in
-    let d : c.loop-i.bytes ≡ digits 8 c.args.packed [] = sym (digits_done c.loop-i.n c.loop-i.bytes) ∙ rw e at c.loop-i.invariant.1 in
-    record { bytes = d; count = c.filled.ensures ∙ ap (λ bs. length (before_zero bs)) d }
+    let bytes = c.to_be_bytes-bytes.result in
+    let e : bytes ≡ digits 8 c.args.packed [] = c.to_be_bytes-bytes.ensures ∙ sym (append-nil _) ∙ sym (digits_be 8 c.args.packed []) in
+    rw (c.truncate.ensures.items, c.filled-count.ensures, c.from-name.ensures.0, (before_run bytes), e) refl

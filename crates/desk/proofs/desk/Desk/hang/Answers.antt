@@ -1,34 +1,26 @@
-use Rattle.std.proofs.Common.{sym, ap, ◌∙◌}
-use Rattle.std.specs.Vec.{with_items}
-use Rattle.desk.specs.declared.desk.Desk.{Desk}
+use Rattle.std.proofs.Common.{◌≡◌, ap, ◌∙◌, rules}
+use Rattle.plan.specs.Model.{model_of, tables_of}
+use Rattle.placing.specs.Answer.{hang_answer, hung_text}
 use Rattle.desk.specs.Calls.{after_hang, hang_told}
-use Rattle.desk.specs.Held.{held, on_desk, tabled}
-use Rattle.desk.proofs.Lending.{back, held_in, lent, ready_in}
+use Rattle.desk.specs.Held.{Ready, held, on_desk}
+use Rattle.desk.proofs.Asking.{hang_by}
+use Rattle.desk.proofs.Lending.{Told, call_held, call_ready, ready_in}
 use Rattle.desk.proofs.desk.Desk.hang.Goals as goal
 
 pub returns : goal.returns
 returns g c =
     let k = g.L.Label.kind in
     let text = c.args.text.now in
-    let d = c.args.self.now in
-    let x = c.hang_tables.new in
-    let keeps = c.hang_tables.auto in
-    let ens = c.hang_tables.ensures in
-    let a = c.as_mut_slice.result.now in
-    let b = c.as_mut_slice-2.result.now in
-    let f = c.as_mut_slice-3.result.now in
-    let r = c.as_mut_slice-4.result.now in
-    let ea = c.as_mut_slice.ensures.value in
-    let eb = c.as_mut_slice-2.ensures.value in
-    let ef = c.as_mut_slice-3.ensures.value in
-    let er = c.as_mut_slice-4.ensures.value in
-    let d' : Desk g.row.L.Denot =
-    record { atoms = with_items d.atoms x.atoms; cells = with_items d.cells x.cells; free = with_items d.free x.free; register = with_items d.register x.register; counts = x.counts } in
-    let t' = tabled x.atoms x.cells x.free x.register x.counts in
-    let before = lent d a b f r ea eb ef er in
-    let after = back d a b f r ea eb ef er x.atoms x.cells x.free x.register x.counts keeps.atoms keeps.cells keeps.free keeps.register in
+    let lent = c.lend.ensures in
+    let p = lent.shown.now in
+    let q = lent.left.now in
+    let answer : c.lend.result ≡ hang_answer k p text = search rules in
+    let told : Told k p q c.lend.result (hung_text k (model_of p) text) = record { after = search rules; same = search rules; sound = search rules } in
+    let back : on_desk c.lend.new.self ≡ tables_of q = lent.back told.same in
+    let ready : Ready k (tables_of p) = ready_in k (tables_of p) _ lent.shows c.requires.ready in
+    let same = hang_by told text answer ready in
     record {
-      answer = ens.answer ∙ ap (λ t. hang_told k (held t) text) (sym before);
-      after = held_in (on_desk d') t' (on_desk d) (tabled a b f r d.counts) (after_hang k text) after before ens.after;
-      ready = ready_in k (on_desk d') t' after ens.ready;
+      answer = same ∙ ap (λ t. hang_told k (held t) text) lent.shows;
+      after = call_held told _ back _ same ∙ ap (λ t. after_hang k text (held t)) lent.shows;
+      ready = call_ready told _ back (λ _. ready);
     }

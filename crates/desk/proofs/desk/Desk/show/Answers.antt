@@ -1,30 +1,25 @@
-use Rattle.std.proofs.Common.{length, sym, ap, ◌∙◌}
+use Rattle.std.proofs.Common.{◌≡◌, length, ap, ◌∙◌, rules}
+use Rattle.plan.specs.Model.{tables_of}
+use Rattle.showing.specs.Shown.{show_answer, show_buffer, shown}
 use Rattle.desk.specs.Calls.{show_told, shown_over}
-use Rattle.desk.specs.Held.{held}
-use Rattle.showing.specs.Shown.{shown}
-use Rattle.desk.proofs.Lending.{back, lent}
+use Rattle.desk.specs.Held.{Ready, held}
+use Rattle.desk.proofs.Asking.{buffer_same, show_same}
+use Rattle.desk.proofs.Lending.{ready_in, unmoved}
 use Rattle.desk.proofs.desk.Desk.show.Goals as goal
 
 pub returns : goal.returns
 returns g c =
     let k = g.L.Label.kind in
     let old = c.args.out.now in
-    let d = c.args.self.now in
-    let x = c.show_tables.new in
-    let keeps = c.show_tables.auto in
-    let ens = c.show_tables.ensures in
-    let a = c.as_mut_slice.result.now in
-    let b = c.as_mut_slice-2.result.now in
-    let f = c.as_mut_slice-3.result.now in
-    let r = c.as_mut_slice-4.result.now in
-    let ea = c.as_mut_slice.ensures.value in
-    let eb = c.as_mut_slice-2.ensures.value in
-    let ef = c.as_mut_slice-3.ensures.value in
-    let er = c.as_mut_slice-4.ensures.value in
-    let before = lent d a b f r ea eb ef er in
-    let after = back d a b f r ea eb ef er x.atoms x.cells x.free x.register d.counts keeps.atoms keeps.cells keeps.free keeps.register in
+    let lent = c.lend.ensures in
+    let p = lent.shown.now in
+    let q = lent.left.now in
+    let r = c.lend.result in
+    let answer : r ≡ show_answer k p (length old) = search rules in
+    let same : q ≡ p = search rules in
+    let ready : Ready k (tables_of p) = ready_in k (tables_of p) _ lent.shows c.requires.ready in
     record {
-      answer = ens.answer ∙ ap (λ t. show_told k (held t) (length old)) (sym before);
-      text = ens.text ∙ ap (λ t. shown_over c.show_tables.result (shown k (held t).model) old) (sym before);
-      same = after ∙ ens.same ∙ sym before;
+      answer = answer ∙ show_same k p (length old) ready ∙ ap (λ t. show_told k (held t) (length old)) lent.shows;
+      text = ◌∙◌ {b = show_buffer k p old r} (search rules) (buffer_same k p old r ∙ ap (λ t. shown_over r (shown k (held t).model) old) lent.shows);
+      same = lent.back (unmoved p q same) ∙ ap tables_of same ∙ lent.shows;
     }

@@ -1,0 +1,11 @@
+use Rattle.std.proofs.Common.{rules}
+use Rattle.std.proofs.lemmas.Fn.{always_returns_same}
+use Rattle.label.specs.Kind.{compared}
+use Rattle.plan.proofs.Placing.{sought_row}
+use Rattle.register.proofs.seek.seek.Goals as goal
+
+pub returns-clause-is : goal.returns-clause-is
+returns-clause-is g c =
+    let k = g.L.Label.kind in
+    let said = c.binary_search_by.ensures.position (λ row. compared k.lower row.label c.args.label) (always_returns_same _ _ _ (λ a r next called. search rules)) in
+    sought_row k g.met.L.Label.lawful c.args.label c.requires c.args.register.now.rows.now c.args.register.now.filed c.binary_search_by.result c.binary_search_by.ensures.bound said
