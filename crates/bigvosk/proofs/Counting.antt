@@ -7,7 +7,6 @@ use Rattle.std.proofs.lemmas.Fmt.{IsAscii-from_digits}
 use Rattle.std.proofs.lemmas.Str.{IsUtf8-from_ascii}
 use Rattle.std.proofs.lemmas.Str.Parse.{IsDigitsTest, IsNumeralModel, FoldsDigits, numerals_by_fold, parse_digits}
 use Rattle.std.specs.Bool.{then_some}
-use Rattle.std.specs.Char.{is_ascii_digit}
 use Rattle.std.specs.List.{list_all}
 use Rattle.std.specs.Result.{MatchResult, OkIff, result_ok}
 use Rattle.std.specs.Str.{IsUtf8}
@@ -17,7 +16,7 @@ use Rattle.text.specs.Numbers.{digits_value}
 use Rattle.text.specs.Shapes.{begins}
 use Rattle.bigvosk.specs.Numbers.{number_up_to}
 
--- a digit here is one of std's
+-- a digit is a byte of a range
 in_range : (b : ℕ) → digit b ≡ true → (48 ≤ b) × (b ≤ 57)
 unfolding class_of
 in_range b e = grind (arith, nat_tests)
@@ -26,17 +25,9 @@ from_range : (b : ℕ) → 48 ≤ b → b ≤ 57 → digit b ≡ true
 unfolding class_of
 from_range b l h = grind (arith, nat_tests)
 
-is_digit : (b : ℕ) → is_ascii_digit b ≡ digit b
-unfolding class_of
-is_digit b = grind (arith, nat_tests)
-
 both : (a b : Bool) → (a && b) ≡ true → (a ≡ true) × (b ≡ true)
 both true b e = (refl, e)
 both false b e = absurd (cc)
-
-pub digits_all : (ds : List ℕ) → list_all is_ascii_digit ds ≡ list_all digit ds
-digits_all [] = refl
-digits_all (d ∷ ds) = rw (is_digit d, digits_all ds) refl
 
 digits : IsDigitsTest (λ ds. list_all digit ds ≡ true)
 digits = record {
@@ -70,16 +61,17 @@ module _ (most : ℕ) where
   abbrev answer : List ℕ → Option ℕ
   answer s = cond (begins digit digit s && leb (digits_value 0 s) most) (Some (digits_value 0 s)) None
 
-  pub not_digits : (s : List ℕ) → list_all is_ascii_digit s ≡ false → None ≡ number_up_to most s
+  pub not_digits : (s : List ℕ) → begins digit digit s ≡ false → None ≡ number_up_to most s
   unfolding number_up_to
-  not_digits [] e = absurd (cc)
-  not_digits (b ∷ bs) e =
-      let no : begins digit digit (b ∷ bs) ≡ false = sym (digits_all (b ∷ bs)) ∙ e in
-      sym (ap (λ t. cond (t && leb (digits_value 0 (b ∷ bs)) most) (Some (digits_value 0 (b ∷ bs))) None) no)
+  not_digits s e = sym (ap (λ t. cond (t && leb (digits_value 0 s) most) (Some (digits_value 0 s)) None) e)
 
-  module _ (s : List ℕ) (e : list_all is_ascii_digit s ≡ true) where
+  all_digits : (s : List ℕ) → begins digit digit s ≡ true → list_all digit s ≡ true
+  all_digits [] e = absurd (cc)
+  all_digits (b ∷ bs) e = e
+
+  module _ (s : List ℕ) (e : begins digit digit s ≡ true) where
     passes : list_all digit s ≡ true
-    passes = sym (digits_all s) ∙ e
+    passes = all_digits s e
 
     pub is_text : IsUtf8 s
     is_text = IsUtf8-from_ascii s (IsAscii-from_digits s (own.to s passes))
@@ -100,7 +92,7 @@ module _ (most : ℕ) where
       sym (ap (λ t. cond t (Some (digits_value 0 (b ∷ bs))) None) over) ∙ fits (b ∷ bs) (omega arith) e)
       (cases_lt (digits_value 0 (b ∷ bs)) (2 ^ 32))
 
-  module _ (s : List ℕ) (e : list_all is_ascii_digit s ≡ true) (small : most < 2 ^ 32) {E : Type 0} where
+  module _ (s : List ℕ) (e : begins digit digit s ≡ true) (small : most < 2 ^ 32) {E : Type 0} where
     gives : (r : Result ℕ E) → OkIff r ((0 < length s) × (digits_value 0 s < 2 ^ 32)) (digits_value 0 s) → (n : ℕ) → result_ok r ≡ Some n →
         cond (leb n most) (Some n) None ≡ answer s
     gives (Ok x) h n f = let same : n ≡ digits_value 0 s = cc in rw same (fits s h.0.0 (passes s e))

@@ -4,7 +4,7 @@ use Rattle.fault.specs.declared.Fault.{Fault}
 use Rattle.fault.specs.declared.Layer.{Layer}
 use Rattle.fault.specs.declared.Layer.TheVariants.{Text, Grammar, Book, Plan, Run}
 use Rattle.fault.specs.declared.Refusal.{Refusal}
-use Rattle.fault.specs.Words.{layer_name}
+use Rattle.fault.specs.Words.{message}
 use Rattle.fault.specs.Table.{number_of, layer_of}
 use Rattle.label.specs.WordKind.{word_kind}
 use Rattle.label.specs.WordOrNumberKind.{mixed_kind}
@@ -37,12 +37,8 @@ sheet_line s =
     codes "read " ++ (decimal s.atoms ++ (codes " pieces, " ++ (decimal s.cells ++ (codes " bays, " ++
     (decimal s.connectors ++ (codes " connectors, " ++ (decimal s.once ++ (codes " names standing once" ++ newline))))))))
 
-abbrev pub refused_line : ℕ → List ℕ → ℕ → List ℕ
-refused_line number layer place =
-    codes "refused " ++ (decimal number ++ (codes " " ++ (layer ++ (codes " at " ++ (decimal place ++ newline)))))
-
 abbrev pub fault_line : Fault → List ℕ
-fault_line f = refused_line (number_of f.refusal) (layer_name (layer_of f.refusal)) f.place
+fault_line f = message f ++ newline
 
 -- a refusal, and the lines that point at its place in the text
 unfoldable pub refused : Fault → List ℕ → List ℕ

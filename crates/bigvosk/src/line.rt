@@ -33,6 +33,7 @@ pub enum Command<'t> {
 /// The most things whose places can be listed.
 const MOST_PLACES: u32 = 4096;
 
+// Compared by `==`: patterns of bytes were tried, and the proof did not close.
 /// The command `kind` with this text.
 fn kind_command<'t>(text: &[u8]) -> Command<'t>
     ensures { told result ≡ kind_of text.now }
@@ -46,6 +47,7 @@ fn kind_command<'t>(text: &[u8]) -> Command<'t>
     }
 }
 
+// Compared by `==`, as in `kind_command`.
 /// The order that a text names: `written`, or `shuffled` and a seed.
 // No `TryFrom`: its error would say no more than `None`, that the command is unknown.
 #[tactic(auto, unfolding(crate::specs::Commands::order_of))]
@@ -69,11 +71,13 @@ fn places_command<'t>(text: &[u8]) -> Command<'t>
 {
     let (count, order) = cut(b' ', text);
     match (number_up_to(MOST_PLACES, count), order_of(order)) {
+        // Proved to fit: there is no `From` of a `u32` for `usize`.
         (Some(n), Some(order)) if n > 0 => Command::Places(n as usize, order),
         _ => Command::Unknown,
     }
 }
 
+// Compared by `==`, as in `kind_command`.
 /// The command of a line: the bytes before its first space, and those past it.
 pub fn command_of(line: &[u8]) -> Command<'_>
     ensures { told result ≡ command_of line.now }

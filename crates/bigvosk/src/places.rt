@@ -20,6 +20,7 @@ fn write_spaced(out: &mut Vec<u8>, numbers: &[u16]) -> io::Result<()>
     Ok(())
 }
 
+// A `match` on the name, and no closure: the orders are two types.
 /// The places of `n` things in an order.
 #[tactic(auto, unfolding(crate::specs::Places::places_by))]
 fn places_by(heap: Global, n: usize, order: OrderName) -> Result<Vec<u16>, AllocError>

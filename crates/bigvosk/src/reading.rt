@@ -9,6 +9,7 @@ use label::named::KindName;
 use label::word::WordLabel;
 use label::word_or_number::WordOrNumber;
 
+// A `match` on the name, and no closure: the kinds of labels are two types.
 /// Reads a hang and changes nothing: what it holds, or its fault.
 #[tactic(auto, unfolding(crate::specs::Answers::read_as))]
 pub fn read_as(kind: KindName, text: &[u8]) -> Result<Sheet, Fault>

@@ -11,10 +11,9 @@ use fault::Fault;
 use label::kind::Label;
 use plan::tables::{Atom, Cell, Census, FreeLink, Plan};
 use std::alloc::{AllocError, Global};
-use text::packed::Name;
 
 /// A number of rows for each table of a plan.
-#[derive(Clone, Copy)]
+#[derive(Clone, Copy, Default)]
 pub struct Rows {
     pub atoms: usize,
     pub cells: usize,
@@ -105,10 +104,7 @@ pub fn blank<L: Label + Clone>(heap: Global, filler: L, rows: Rows) -> Result<De
         parent: None,
         set: 0,
     };
-    let end = FreeLink {
-        name: Name { packed: 0 },
-        link: 0,
-    };
+    let end = FreeLink::default();
     let census = Census {
         label: filler,
         atoms: 0,
@@ -118,11 +114,6 @@ pub fn blank<L: Label + Clone>(heap: Global, filler: L, rows: Rows) -> Result<De
         cells: vec![in heap; cell; rows.cells]?,
         free: vec![in heap; end; rows.free]?,
         register: vec![in heap; census; rows.labels]?,
-        counts: Rows {
-            atoms: 0,
-            cells: 0,
-            free: 0,
-            labels: 0,
-        },
+        counts: Rows::default(),
     })
 }

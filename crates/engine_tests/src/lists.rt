@@ -5,14 +5,6 @@ use label::word::WordLabel;
 use plan::tables::{Atom, Cell, Census, FreeLink, Plan};
 use text::packed::Name;
 
-/// Whether a text stands at the front of a buffer, and only untouched bytes after it.
-fn holds(out: &[u8], text: &[u8]) -> bool {
-    match out.strip_prefix(text) {
-        Some(rest) => rest.iter().all(|byte| *byte == b'#'),
-        None => false,
-    }
-}
-
 /// Whether a plan with four rows in each table shows a text, after a strike and then two texts.
 fn shows(first: &[u8], second: &[u8], text: &[u8]) -> Result<bool, Fault> {
     let mut atoms = [Atom {
@@ -48,7 +40,8 @@ fn shows(first: &[u8], second: &[u8], text: &[u8]) -> Result<bool, Fault> {
     hang(&mut plan, second)?;
     let mut out = [b'#'; 32];
     let length = show(&plan, &mut out)?;
-    Ok(length == text.len() && holds(&out, text))
+    let untouched = |rest: &[u8]| rest.iter().all(|byte| *byte == b'#');
+    Ok(length == text.len() && out.strip_prefix(text).is_some_and(untouched))
 }
 
 #[test]

@@ -50,11 +50,6 @@ found_none n s e =
       | false ↦ λ t f. (let l : length s ≤ position_or_len (λ x. x.name.packed == n.packed) s = ltb-false _ _ t in omega (arith, p, l))
     ] refl e
 
-pub position_le : (n : Name) (s : List Standing) → position n s ≤ length s
-unfolding position
-position_le n [] = omega arith
-position_le n (x ∷ xs) = let ih = position_le n xs in grind (arith, nat_tests)
-
 -- a name that stood is marked in its row
 pub noted_again : (n : Name) (p : ℕ) (s : List Standing) (d : Standing) → position n s < length s → noted n p s ≡ set s (position n s) (record { name = (get_or s (position n s) d).name; twice = true; place = (get_or s (position n s) d).place })
 unfolding noted position

@@ -60,12 +60,12 @@ event_of k st equal = None
 event_of k st at_sign = None
 event_of k st other = None
 
--- a token is refused by the lowest number that is at fault there
 -- the event of a label, or that its token means none
 abbrev pub label_answer : {L : Type 0} → Option L → Result (Option (Event L)) Refusal
 label_answer None = Err ForeignLabel
 label_answer (Some l) = Ok (labelled (Some l))
 
+-- a token is refused by the lowest number that is at fault there
 abbrev pub judged : {L : Type 0} → Kind L → State → Seen → Result (Option (Event L)) Refusal
 judged k st s =
     cond (foreign_label k st s) (Err ForeignLabel)

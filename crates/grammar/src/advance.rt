@@ -60,7 +60,6 @@ fn next_connectors(stand: &Stand, sign: Sign<'_>) -> usize
 }
 
 /// Opens and closes cells, and gives the innermost its set, after a token that is not at fault.
-
 fn step_cells(sets: &mut ArrayVec<bool, DEPTH_LIMIT>, sign: Sign<'_>)
     requires { is_open_brace (seen sign) && nat_le depth_limit (length (reverse sets.old.items)) ≡ false }
     ensures { reverse sets.new.items ≡ next_cells (reverse sets.old.items) (seen sign.entry) }

@@ -98,6 +98,7 @@ fn set_number(bytes: &[u8]) -> Option<u8>
         [] | [b'-', ..] => None,
         _ => {
             let k = value_up_to(u32::from(SET_LIMIT) + 1, bytes);
+            // Proved to fit, so no `try_from`, which could fail.
             (1..=u32::from(SET_LIMIT)).contains(&k).then_some(k as u8)
         }
     }

@@ -113,6 +113,7 @@ impl<'t> Reader<'t> {
         };
         Reader {
             rest: text,
+            // Proved to fit: there is no `From` of a `u32` for `usize`.
             at: start as usize,
             stand,
             names: Names::new(),

@@ -53,6 +53,7 @@ pub(crate) fn relink_atoms<L: Label>(atoms: &mut [Atom<L>], became: &[u16])
     }
 }
 
+// Beside `relink_ports`: ports and free links are of two types, and each is one loop.
 /// Puts free links on what their links have become.
 #[tactic(auto, using(crate::proofs::Relinking::map_next))]
 pub(crate) fn relink_free(free: &mut [FreeLink], became: &[u16])

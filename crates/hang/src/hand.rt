@@ -6,5 +6,6 @@ use plan::links::LINKS;
 pub struct Hand {
     pub inside: u8,
     pub first: u16,
+    // One place for each link that a plan may have, and no length of its own.
     pub became: [u16; LINKS],
 }

@@ -19,17 +19,9 @@ use grammar::reader::Reader;
 use grammar::sheet::Sheet;
 use grammar::table::Names;
 use label::kind::Label;
-use plan::check::is_sound;
+use plan::check::{fits, is_sound};
 use plan::limits::{ATOM_LIMIT, CELL_LIMIT, LABEL_LIMIT};
 use plan::tables::Plan;
-
-/// Whether a table takes some rows more.
-fn fits(count: usize, more: usize, rows: usize, limit: usize) -> bool
-    ensures { result ≡ nat_le (count + more) (min rows limit) }
-{
-    let most = rows.min(limit);
-    count <= most && more <= most - count
-}
 
 /// Whether the tables take the atoms and cells of a text.
 fn has_room<L: Label>(plan: &Plan<'_, L>, sheet: Sheet) -> bool

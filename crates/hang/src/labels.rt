@@ -16,8 +16,8 @@ use grammar::reader::Reader;
 use label::kind::Label;
 use label::spelled::Spelled;
 use plan::limits::LABEL_LIMIT;
-use plan::register::is_registered;
-use plan::tables::{Census, Plan};
+use plan::register::Register;
+use plan::tables::Plan;
 
 /// Whether a token is one of those listed.
 fn is_known(token: &Option<Spelled>, tokens: &[Option<Spelled>]) -> bool
@@ -29,17 +29,16 @@ fn is_known(token: &Option<Spelled>, tokens: &[Option<Spelled>]) -> bool
 /// Lists an event's label by its token, if it has one that neither the register nor the list has.
 fn note_label<L: Label>(
     event: Event<L>,
-    register: &[Census<L>],
+    register: &Register<'_, L>,
     tokens: &mut ArrayVec<Option<Spelled>, LABEL_LIMIT>,
 )
-    requires filed { Filed L.Label.kind register.now }
     requires mine { is_mine L.Label.kind event ≡ true }
     requires room { length tokens.old.items + labels_at event ≤ 1024 }
-    ensures labels { map (option_map told) tokens.new.items ≡ noted_label L.Label.kind register.now (map (option_map told) tokens.old.items) event }
+    ensures labels { map (option_map told) tokens.new.items ≡ noted_label L.Label.kind register.now.rows.now (map (option_map told) tokens.old.items) event }
     ensures few { length tokens.new.items ≤ length tokens.old.items + labels_at event }
 {
     match event {
-        Event::Label(label) if !is_registered(label, register) => {
+        Event::Label(label) if !register.has(label) => {
             let token = label.token();
             if !is_known(&token, tokens) {
                 tokens.push(token);
@@ -59,10 +58,12 @@ pub(crate) fn count_lacking<L: Label>(plan: &Plan<'_, L>, reader: &mut Reader<'_
     ensures is { result ≡ length (lacking L.Label.kind (model_of plan.now).register [] (left L.Label.kind reader.old)) }
     ensures whole { view reader.new ≡ final reader.old }
 {
-    let register = &plan.register[..plan.label_count];
+    let register = Register {
+        rows: &plan.register[..plan.label_count],
+    };
     let mut tokens = ArrayVec::new();
     while let Some(event) = next_event::<L>(reader) {
-        note_label(event, register, &mut tokens);
+        note_label(event, &register, &mut tokens);
     }
     tokens.len()
 }

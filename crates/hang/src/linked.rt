@@ -6,6 +6,7 @@ use arrayvec::ArrayVec;
 use grammar::limits::TEXT_LIMIT;
 use grammar::table::Names;
 
+// The links stand beside the names, which are the reader's and only lent.
 /// The names of a text, and the link of each.
 #[derive(Drop)]
 pub struct Linked<'n> {

@@ -38,7 +38,7 @@ pub(crate) fn assign_links(
     let mut links = ArrayVec::new();
     let mut numbers = unused.iter().copied();
     for standing in standings {
-        // A `match`, as nothing is known of the numbers after a closure of `unwrap_or_else` that takes one.
+        // A `match`: a closure of `unwrap_or_else` would need clauses of its own for what it takes from the numbers.
         let link = match closed_link(standing, free) {
             Some(link) => link,
             None => numbers.next().unwrap_or(0),

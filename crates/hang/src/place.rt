@@ -17,6 +17,7 @@ use label::kind::Label;
 use plan::tables::{Atom, Cell, Plan};
 use register::add::add_label;
 
+// The plan is the caller's, the hand the text's, the names the reader's: a struct of all three would serve these two functions alone.
 /// Places one event.
 fn place_event<L: Label>(
     plan: &mut Plan<'_, L>,
@@ -49,6 +50,7 @@ fn place_event<L: Label>(
                 set: 0,
             };
             plan.cell_count = cells + 1;
+            // Proved to fit, so no `try_from`, which could fail.
             hand.inside = cells as u8;
         }
         Event::Leave => hand.inside = parent_of(plan, hand.inside),

@@ -5,7 +5,7 @@ ghost use Rattle.plan.specs.Sound.{count, link_limit, port_links, rows};
 
 use arrayvec::ArrayVec;
 use label::kind::Label;
-use plan::links::{LINKS, tally_free, tally_ports};
+use plan::links::{LINKS, count_ends};
 use plan::tables::{Atom, FreeLink};
 
 /// The numbers whose counter is zero, ascending.
@@ -15,6 +15,7 @@ fn list_zeros(counts: &[u8; LINKS]) -> ArrayVec<u16, LINKS>
     let mut zeros = ArrayVec::new();
     for (number, count) in counts.iter().enumerate() {
         if *count == 0 {
+            // Proved to fit, so no `try_from`, which could fail.
             zeros.push(number as u16);
         }
     }
@@ -25,8 +26,5 @@ fn list_zeros(counts: &[u8; LINKS]) -> ArrayVec<u16, LINKS>
 pub(crate) fn list_unused<L: Label>(atoms: &[Atom<L>], free: &[FreeLink]) -> ArrayVec<u16, LINKS>
     ensures { result.items ≡ filter (λ x. nat_eq (count x (port_links (map node_of atoms.now) ++ map (λ f. f.link) free.now)) 0) (rows 0 link_limit) }
 {
-    let mut counts = [0u8; LINKS];
-    tally_ports(atoms, &mut counts);
-    tally_free(free, &mut counts);
-    list_zeros(&counts)
+    list_zeros(&count_ends(atoms, free))
 }

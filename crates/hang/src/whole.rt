@@ -22,6 +22,7 @@ fn fresh_hand() -> Hand
     Hand {
         inside: 0,
         first: 0,
+        // Proved to fit, so no `try_from`, which could fail.
         became: array::from_fn(|link| link as u16),
     }
 }

@@ -39,7 +39,7 @@ pub(crate) fn spell_word(number: u64) -> Option<Spelled>
 pub(crate) fn admit_word(number: u64) -> Option<SureWord>
     ensures { option_map (λ s. s.packed) result ≡ admitted word_label number }
 {
-    // No `then`: its closure would not know the fact that the type asks for.
+    // No `then`: its closure would need a clause of its own for the fact that the type asks for.
     if is_word_label(number) {
         Some(SureWord { packed: number })
     } else {

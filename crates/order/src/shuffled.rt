@@ -32,6 +32,7 @@ impl Order for Shuffled {
         if n == 0 || n > 4096 {
             return Round::default();
         }
+        // Proved to fit, so no `try_from`, which could fail.
         let n = n as u16;
         let high = 1 + (self.seed / 65536) % u32::from(n);
         Round {

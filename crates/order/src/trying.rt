@@ -11,6 +11,7 @@ pub trait Order {
 
     ghost meaning: { Meaning Self Self.Row };
 
+    // 0 and no `None` outside the range: asking cannot fail, and a buyer's order says so too.
     /// The place of the k-th try among n.
     fn place(&self, n: usize, k: usize) -> usize
         ensures { result ≡ answer (meaning.place self.now) n k }
@@ -40,6 +41,7 @@ pub fn places<O: Order>(order: &O, out: &mut [u16])
 {
     let row = order.row(out.len());
     for (k, place) in out.iter_mut().enumerate() {
+        // Proved to fit, so no `try_from`, which could fail.
         *place = O::at(row, k) as u16;
     }
 }

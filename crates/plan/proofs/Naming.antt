@@ -51,10 +51,3 @@ packed_test number n p bytes w b c t q =
     let m : n - 0 ≡ length (spelling number) = omega arith in
     let e : take (n - 0) bytes ≡ spelling number = ap₂ take m b ∙ spelling_front number in
     ap₂ (λ x y. x && eqb y number) (t ∙ ap is_name e) (q ∙ ap pack e)
-
-pub name_test : (number n : ℕ) (bytes : List ℕ) (w : Bool) → bytes ≡ digits 8 number [] → n ≡ length (spelling number) → w ≡ is_name (take (n - 0) bytes) → w ≡ false → w ≡ (is_name (spelling number) && eqb (pack (spelling number)) number)
-name_test number n bytes w b c t f = let h = packed_test number n (pack (take (n - 0) bytes)) bytes w b c t refl in f ∙ sym (and_left w _ f) ∙ h
-
-pub name_shape : (s : List ℕ) → 0 < length s → is_name s ≡ ((upper (get_or s 0 0) && eqb (prefix_len tail (past 1 s)) (length (past 1 s))) && ltb (length (past 1 s)) 8)
-name_shape s h =
-    ap is_name (at_first 0 s h) ∙ ap (λ v. (upper (get_or s 0 0) && v) && leb (suc (length (past 1 s))) 8) (all_longest tail (past 1 s))

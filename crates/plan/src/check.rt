@@ -1,5 +1,5 @@
 //! The check that a plan is sound, whatever its tables hold.
-ghost use Rattle.std.specs.Prelude.{◌≡◌, ◌≤◌, min, true, length, Decides, nat_le};
+ghost use Rattle.std.specs.Prelude.{◌≡◌, ◌+◌, ◌≤◌, min, true, length, Decides, nat_le};
 ghost use Rattle.plan.specs.Model.{model_of};
 ghost use Rattle.plan.specs.Sound.{Sound, counts_fit};
 ghost use Rattle.plan.specs.Tests.{sound_test, tables_test};
@@ -14,21 +14,22 @@ use crate::register::register_sound;
 use crate::tables::{Atom, Cell, Census, FreeLink, Plan};
 use label::kind::Label;
 
-/// Whether a count passes neither the rows of its table nor the limit.
-fn fits(count: usize, rows: usize, limit: usize) -> bool
-    ensures { result ≡ nat_le count (min rows limit) }
+/// Whether a table takes some rows more: with them its count passes neither its rows nor the limit.
+pub fn fits(count: usize, more: usize, rows: usize, limit: usize) -> bool
+    ensures { result ≡ nat_le (count + more) (min rows limit) }
 {
-    count <= rows.min(limit)
+    let most = rows.min(limit);
+    count <= most && more <= most - count
 }
 
 /// Whether no count passes its table.
 pub fn counts_fit<L: Label>(plan: &Plan<'_, L>) -> bool
     ensures { result ≡ counts_fit plan.now }
 {
-    fits(plan.atom_count, plan.atoms.len(), ATOM_LIMIT)
-        && fits(plan.cell_count, plan.cells.len(), CELL_LIMIT)
-        && fits(plan.free_count, plan.free.len(), FREE_LIMIT)
-        && fits(plan.label_count, plan.register.len(), LABEL_LIMIT)
+    fits(plan.atom_count, 0, plan.atoms.len(), ATOM_LIMIT)
+        && fits(plan.cell_count, 0, plan.cells.len(), CELL_LIMIT)
+        && fits(plan.free_count, 0, plan.free.len(), FREE_LIMIT)
+        && fits(plan.label_count, 0, plan.register.len(), LABEL_LIMIT)
 }
 
 /// Whether the tables, cut to the rows that count, are those of a sound plan.

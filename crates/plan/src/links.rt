@@ -1,5 +1,5 @@
 //! The checks of a plan's links: their ends are counted in one pass, and looked at in a second.
-ghost use Rattle.std.specs.Prelude.{◌≡◌, ◌++◌, map, take};
+ghost use Rattle.std.specs.Prelude.{◌≡◌, ◌++◌, map, take, replicate};
 ghost use Rattle.plan.specs.Model.{node_of};
 ghost use Rattle.std.specs.List.{flat_map, list_all};
 ghost use Rattle.plan.specs.Sound.{port_links};
@@ -10,6 +10,7 @@ use crate::limits::LINK_LIMIT;
 use crate::tables::{Atom, FreeLink};
 use label::kind::Label;
 
+// By `as`: a constant is no place for `From`.
 /// A counter for each link.
 pub const LINKS: usize = LINK_LIMIT as usize;
 
@@ -33,7 +34,7 @@ fn tally_one(link: u16, counts: &mut [u8])
 
 /// Counts the ends at ports.
 #[tactic(auto, unfolding(crate::specs::Sound::port_links, crate::specs::Tally::tallied))]
-pub fn tally_ports<L: Label>(atoms: &[Atom<L>], counts: &mut [u8])
+fn tally_ports<L: Label>(atoms: &[Atom<L>], counts: &mut [u8])
     ensures { counts.new ≡ tallied (port_links (map node_of atoms.now)) counts.old }
 {
     for atom in atoms {
@@ -43,14 +44,26 @@ pub fn tally_ports<L: Label>(atoms: &[Atom<L>], counts: &mut [u8])
     }
 }
 
+// Beside `tally_ports`: ports and free links are of two types, and each is one loop.
 /// Counts the ends that are free links.
 #[tactic(auto, unfolding(crate::specs::Tally::tallied))]
-pub fn tally_free(free: &[FreeLink], counts: &mut [u8])
+fn tally_free(free: &[FreeLink], counts: &mut [u8])
     ensures { counts.new ≡ tallied (map (λ f. f.link) free.now) counts.old }
 {
     for end in free {
         tally_one(end.link, counts);
     }
+}
+
+/// How many ends each link has, as far as three.
+pub fn count_ends<L: Label>(atoms: &[Atom<L>], free: &[FreeLink]) -> [u8; LINKS]
+    ensures { result ≡ tallied (map (λ f. f.link) free.now) (tallied (port_links (map node_of atoms.now)) (replicate 8256 0)) }
+{
+    // One place for each link that a plan may have, and no length of its own.
+    let mut counts = [0; LINKS];
+    tally_ports(atoms, &mut counts);
+    tally_free(free, &mut counts);
+    counts
 }
 
 /// Whether a link was counted twice.
@@ -76,8 +89,5 @@ fn ends_twice<L: Label>(atoms: &[Atom<L>], free: &[FreeLink], counts: &[u8]) -> 
 pub(crate) fn links_sound<L: Label>(atoms: &[Atom<L>], free: &[FreeLink]) -> bool
     ensures { result ≡ links_test (map node_of atoms.now) free.now }
 {
-    let mut counts = [0u8; LINKS];
-    tally_ports(atoms, &mut counts);
-    tally_free(free, &mut counts);
-    ends_twice(atoms, free, &counts)
+    ends_twice(atoms, free, &count_ends(atoms, free))
 }

@@ -24,7 +24,7 @@ impl<'r, L: Label> Register<'r, L> {
         ensures is { is_some result ≡ (ascending L.Label.kind rows.now && list_all (λ c. L.Label.kind.mine c.label) rows.now) }
         ensures same { IfSome result (λ r. r.rows.now ≡ rows.now) }
     {
-        // No `then`: its closure would not know the fact that the type asks for.
+        // No `then`: its closure would need a clause of its own for the fact that the type asks for.
         if ascends(rows) && rows_known(rows) {
             Some(Register { rows })
         } else {
@@ -41,6 +41,15 @@ impl<'r, L: Label> Register<'r, L> {
         self.rows
             .binary_search_by(|row| row.label.compare(label))
             .ok()
+    }
+
+    /// Whether a label has a row.
+    #[tactic(auto, using(crate::proofs::Placing::registered_position))]
+    pub fn has(&self, label: L) -> bool
+        requires { L.Label.kind.mine label ≡ true }
+        ensures { result ≡ registered L.Label.kind label self.now.rows.now }
+    {
+        self.position(label).is_some()
     }
 }
 
@@ -59,18 +68,6 @@ fn rows_known<L: Label>(rows: &[Census<L>]) -> bool
     rows.iter().all(|row| is_label(row.label))
 }
 
-// A caller has the rows in its tables, and knows of them by a proof: here they become a `Register`.
-/// Whether the register has a label.
-#[tactic(auto, using(crate::proofs::Placing::registered_position))]
-pub fn is_registered<L: Label>(label: L, rows: &[Census<L>]) -> bool
-    requires filed { Filed L.Label.kind rows.now }
-    requires mine { L.Label.kind.mine label ≡ true }
-    ensures { result ≡ registered L.Label.kind label rows.now }
-{
-    let register = Register { rows };
-    register.position(label).is_some()
-}
-
 /// Whether each row says its count, and none is zero.
 fn rows_match<L: Label>(rows: &[Census<L>], counts: &[usize]) -> bool
     ensures { result ≡ list_all (λ p. nat_lt 0 p.0.atoms && p.0.atoms == p.1) (zip rows.now counts.now) }
@@ -87,6 +84,7 @@ pub(crate) fn register_sound<L: Label>(atoms: &[Atom<L>], rows: &[Census<L>]) ->
     let Some(register) = Register::of(rows) else {
         return false;
     };
+    // One place for each row, of which there may be fewer.
     let mut counts = [0usize; LABEL_LIMIT];
     for atom in atoms {
         let Some(row) = register.position(atom.label) else {

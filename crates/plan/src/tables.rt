@@ -7,6 +7,7 @@ pub struct Atom<L> {
     pub label: L,
     pub cell: u8,
     pub arity: u8,
+    // The caller's memory too, so the number of ports stands beside them.
     pub links: [u16; 8],
 }
 
@@ -32,6 +33,7 @@ pub struct Census<L> {
 }
 
 // The tables and their counts are the caller's memory, so they stand side by side in its own form, and no `Vec` holds them.
+// No method gives the rows that count: a caller could call it too, and would have to show first that they fit.
 /// A plan. Of each table the first rows count, as many as the number beside it says; the others are free.
 #[derive(Drop)]
 pub struct Plan<'a, L> {

@@ -4,7 +4,7 @@ use plan::check::is_sound;
 use plan::strike::strike;
 use plan::tables::{Atom, Cell, Census, FreeLink, Plan};
 use std::test::Fail;
-use text::packed::{Name, packed};
+use text::packed::Name;
 
 /// What is wrong with a plan.
 #[derive(Clone, Copy)]
@@ -25,28 +25,24 @@ enum Wrong {
     Census,
 }
 
-fn word(bytes: &[u8]) -> WordLabel {
-    WordLabel(packed(bytes))
-}
-
 /// Whether a plan is sound, with one thing wrong or none: an atom on the root, one in a cell inside a cell, one in the outer cell;
 /// a link between two ports, one from a port to an open name, one between two open names.
 fn sound(wrong: Wrong) -> bool {
     let mut atoms = [
         Atom {
-            label: word(b"a"),
+            label: WordLabel::new(b"a"),
             cell: 0,
             arity: 2,
             links: [7, 8000, 0, 0, 0, 0, 0, 0],
         },
         Atom {
-            label: word(b"b"),
+            label: WordLabel::new(b"b"),
             cell: 1,
             arity: 1,
             links: [7, 9, 9, 9, 9, 9, 9, 9],
         },
         Atom {
-            label: word(b"b"),
+            label: WordLabel::new(b"b"),
             cell: 2,
             arity: 0,
             links: [7; 8],
@@ -82,11 +78,11 @@ fn sound(wrong: Wrong) -> bool {
     ];
     let mut register = [
         Census {
-            label: word(b"a"),
+            label: WordLabel::new(b"a"),
             atoms: 1,
         },
         Census {
-            label: word(b"b"),
+            label: WordLabel::new(b"b"),
             atoms: 2,
         },
     ];
@@ -104,7 +100,7 @@ fn sound(wrong: Wrong) -> bool {
         Wrong::OneEnd => atoms[1].arity = 0,
         Wrong::LowerName => free[1].name = Name::new(b"_1"),
         Wrong::SameName => free[2].name = Name::new(b"C"),
-        Wrong::Register => register[0].label = word(b"c"),
+        Wrong::Register => register[0].label = WordLabel::new(b"c"),
         Wrong::Census => register[1].atoms = 1,
     }
     let plan = Plan {

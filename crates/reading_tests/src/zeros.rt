@@ -51,7 +51,7 @@ impl Label for Zeros {
     }
 
     fn admit(self) -> Option<Zero> {
-        if self.held == 0 { Some(Zero) } else { None }
+        (self.held == 0).then_some(Zero)
     }
 
     fn plain(s: Zero) -> Zeros {

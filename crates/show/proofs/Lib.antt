@@ -1,4 +1,3 @@
-pub mod Cuts
 pub mod Linking
 pub mod Walks
 pub mod Held

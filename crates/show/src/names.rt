@@ -41,7 +41,7 @@ impl Scribe<'_> {
         ensures page { page_of self.new ≡ named_on (page_of self.old) link }
         ensures name { result ≡ named_as (page_of self.old) link }
     {
-        // A `match`, as nothing is known of the scribe after a closure of `or_else` that changes it.
+        // A `match`: `or_else` with a closure that changes the scribe was tried, and the proof did not close.
         match open_name(self.free, link) {
             Some(name) => Some(name),
             None => self.number_of(link).map(number_name),

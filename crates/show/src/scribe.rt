@@ -1,10 +1,7 @@
 //! What a text is written with.
-use plan::limits::LINK_LIMIT;
+use plan::links::LINKS;
 use plan::tables::FreeLink;
 use showing::last::Last;
-
-/// A place for each link that a sound plan can have.
-pub const LINKS: usize = LINK_LIMIT as usize;
 
 /// A buffer, how far it is written, and the names and numbers of links.
 // There is no heap: the buffer is the caller's memory, so how far it is written stands beside it.
@@ -19,6 +16,7 @@ pub struct Scribe<'a> {
     /// The open names.
     pub free: &'a [FreeLink],
     /// The number of each link that has one.
+    // One place for each link that a plan may have; the count says the next number, and is no length.
     pub numbers: [Option<u16>; LINKS],
     /// How many have one.
     pub count: u16,

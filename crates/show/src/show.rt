@@ -8,10 +8,11 @@ ghost use Rattle.roundtrip.specs.Roundtrip.{RoundTrip};
 ghost use Rattle.show.specs.Page.{page_of, pasted};
 ghost use Rattle.show.specs.Steps.{plan_written};
 
-use crate::scribe::{LINKS, Scribe};
+use crate::scribe::Scribe;
 use fault::{Fault, Refusal};
 use label::kind::Label;
 use plan::check::is_sound;
+use plan::links::LINKS;
 use plan::tables::Plan;
 use showing::last::Last;
 use text::limits::DEPTH_LIMIT;

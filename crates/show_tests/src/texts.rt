@@ -3,18 +3,12 @@ use fault::Fault;
 use label::word::WordLabel;
 use plan::tables::{Atom, Cell, Census, FreeLink, Plan};
 use show::show::show;
-use text::packed::{Name, packed};
-
-fn word(bytes: &[u8]) -> WordLabel {
-    WordLabel(packed(bytes))
-}
+use text::packed::Name;
 
 /// Whether a text stands at the front of a buffer, and only untouched bytes after it.
 fn holds(out: &[u8], text: &[u8]) -> bool {
-    match out.strip_prefix(text) {
-        Some(rest) => rest.iter().all(|byte| *byte == b'#'),
-        None => false,
-    }
+    out.strip_prefix(text)
+        .is_some_and(|rest| rest.iter().all(|byte| *byte == b'#'))
 }
 
 /// Shows a plan into a buffer: an atom on the root, one in a cell inside a cell, one in the outer cell;
@@ -22,19 +16,19 @@ fn holds(out: &[u8], text: &[u8]) -> bool {
 fn shown(root: u8, out: &mut [u8]) -> Result<usize, Fault> {
     let mut atoms = [
         Atom {
-            label: word(b"a"),
+            label: WordLabel::new(b"a"),
             cell: 0,
             arity: 4,
             links: [7, 8000, 3, 3, 0, 0, 0, 0],
         },
         Atom {
-            label: word(b"b"),
+            label: WordLabel::new(b"b"),
             cell: 1,
             arity: 1,
             links: [7, 9, 9, 9, 9, 9, 9, 9],
         },
         Atom {
-            label: word(b"b"),
+            label: WordLabel::new(b"b"),
             cell: 2,
             arity: 0,
             links: [7; 8],
@@ -70,11 +64,11 @@ fn shown(root: u8, out: &mut [u8]) -> Result<usize, Fault> {
     ];
     let mut register = [
         Census {
-            label: word(b"a"),
+            label: WordLabel::new(b"a"),
             atoms: 1,
         },
         Census {
-            label: word(b"b"),
+            label: WordLabel::new(b"b"),
             atoms: 2,
         },
     ];

@@ -59,11 +59,6 @@ unfolding tokens
 tokens_fault [] at r h t f = absurd (omega arith)
 tokens_fault (b ∷ bs) at r h t f = cond-false (blank b) _ _ t ∙ ap (first (λ m. tokens m (suc at) bs) at b bs) f
 
--- a text of at least one byte, by its first
-by_first : (s : List ℕ) (b : ℕ) → 0 < length s → get_or s 0 0 ≡ b → s ≡ b ∷ drop 1 s
-by_first [] b h e = absurd (omega arith)
-by_first (c ∷ cs) b h e = ap (λ x. x ∷ cs) e
-
 turn_front : (bs : List ℕ) → 0 < length bs → get_or bs 0 0 ≡ 45 → front 58 bs ≡ Ok (sorts.Mark Turn, 1)
 unfolding class_of
 turn_front [] h e = absurd (omega arith)

@@ -3,7 +3,7 @@ use Rattle.std.specs.Prelude.{ℕ, Bool, true, false, cond, ◌&&◌, ◌||◌, 
 use Rattle.text.specs.declared.class.Class.{Class}
 use Rattle.text.specs.declared.class.Class.TheVariants.{Blank, Lower, Upper, Digit, Minus, Mark, Other}
 use Rattle.text.specs.declared.class.Run.{Run}
-use Rattle.text.specs.declared.class.Run.TheVariants.{Tails, Digits}
+use Rattle.text.specs.declared.class.Run.TheVariants.{Tails, Digits, Blanks}
 
 abbrev pub within : ℕ → ℕ → ℕ → Bool
 within a z b = nat_le a b && nat_le b z
@@ -78,3 +78,4 @@ tail b = lower b || (upper b || digit b)
 abbrev pub passes : Run → ℕ → Bool
 passes Tails = tail
 passes Digits = digit
+passes Blanks = blank

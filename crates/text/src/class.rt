@@ -51,6 +51,8 @@ pub enum Run {
     Tails,
     /// Digits.
     Digits,
+    /// What separates tokens.
+    Blanks,
 }
 
 /// Whether a run goes on with a byte.
@@ -60,5 +62,6 @@ pub fn goes_on(run: Run, b: u8) -> bool
     match run {
         Run::Tails => matches!(class_of(b), Class::Lower | Class::Upper | Class::Digit),
         Run::Digits => matches!(class_of(b), Class::Digit),
+        Run::Blanks => is_blank(b),
     }
 }

@@ -25,14 +25,6 @@ pub fn is_run(run: Run, bytes: &[u8]) -> bool
     bytes.iter().all(|b| goes_on(run, *b))
 }
 
-/// How many bytes at the front separate tokens.
-fn blank_length(text: &[u8]) -> usize
-    ensures count { result ≡ prefix_len blank text.now }
-    ensures within { result ≤ length text.now }
-{
-    text.iter().take_while(|b| is_blank(**b)).count()
-}
-
 /// The mark of one byte, other than the colon.
 fn mark_of(b: u8) -> Mark
     ensures { result ≡ single b }
@@ -149,7 +141,7 @@ pub fn next_token<'t>(text: &'t [u8], at: usize) -> Result<Option<Found<'t>>, Fa
     ensures is { answer (at + length text.now) result ≡ tokens 0 at text.now }
     ensures ahead { GoesOn at text.now result }
 {
-    let blanks = blank_length(text);
+    let blanks = run_length(Run::Blanks, text);
     let rest = &text[blanks..];
     if rest.is_empty() {
         return Ok(None);

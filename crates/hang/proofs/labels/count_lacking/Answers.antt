@@ -21,7 +21,7 @@ note_label-requires g c =
     let mine = mine_on k e rest (ap (all_mine k) gives ∙ c.loop-event.invariant.mine) in
     let more : labels_at e + labels_in rest ≡ labels_in (left k c.loop-event.reader) = sym (labels_on e rest) ∙ ap labels_in gives in
     let room = c.loop-event.invariant.few in
-    record { filed = c.requires.filed; mine = mine.0; room = omega arith }
+    record { mine = mine.0; room = omega arith }
 
 pub loop-event-preserved : goal.loop-event-preserved
 loop-event-preserved g c =

@@ -9,7 +9,7 @@ use Rattle.hang.proofs.labels.count_lacking.Given as goal
 
 abbrev pub invariant-loop-event : goal.invariant-loop-event
 invariant-loop-event g l = record {
-  list : lacking g.L.Label.kind l.register (map (option_map told) l.tokens.items) (left g.L.Label.kind l.reader) ≡ lacking g.L.Label.kind l.register [] (left g.L.Label.kind l.initial.reader);
+  list : lacking g.L.Label.kind l.register.0.now (map (option_map told) l.tokens.items) (left g.L.Label.kind l.reader) ≡ lacking g.L.Label.kind l.register.0.now [] (left g.L.Label.kind l.initial.reader);
   whole : final l.reader ≡ final l.initial.reader;
   clean : fault_of (left g.L.Label.kind l.reader) ≡ None;
   mine : all_mine g.L.Label.kind (left g.L.Label.kind l.reader) ≡ true;
