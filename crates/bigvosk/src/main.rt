@@ -11,16 +11,17 @@ mod reading;
 mod window;
 mod work;
 
-ghost use Rattle.std.specs.Prelude.{◌≡◌, OnOk};
+ghost use Rattle.std.specs.Prelude.{◌≡◌, [], OnOk};
 ghost use Rattle.bigvosk.specs.Scripts.{kind_after, lines_of};
 
 use std::io::Read;
 use std::{env, fs, io};
 use work::Session;
 
-/// Works a script and prints what it prints.
+/// Works a script and prints what it prints; nothing of it is left to print again.
 fn print_script(rt: &HostRuntime, session: &mut Session, script: &[u8]) -> io::Result<()>
-    ensures { OnOk result (session.new.kind ≡ kind_after session.old.kind (lines_of script.now)) }
+    ensures kind { OnOk result (session.new.kind ≡ kind_after session.old.kind (lines_of script.now)) }
+    ensures out { OnOk result (session.new.out.items ≡ []) }
 {
     session.work_script(script)?;
     rt.write_all(session.out.as_slice())?;

@@ -13,7 +13,6 @@ use Rattle.grammar.specs.State.{times, noted}
 use Rattle.grammar.specs.Names.{position, found}
 use Rattle.grammar.specs.Reading.{lone, first_lone}
 use Rattle.grammar.specs.Sheets.{once_in}
-use Rattle.std.proofs.lemmas.Bool.Decides.{nat_tests}
 
 -- what the code reads past the end
 abbrev pub blank : Standing

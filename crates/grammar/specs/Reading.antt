@@ -1,5 +1,5 @@
 -- The events of a text.
-use Rattle.std.specs.Prelude.{ℕ, ◌/◌, ◌^◌, Bool, true, false, cond, not, ◌&&◌, List, [], ◌∷◌, length, Some, None, Ok, Err, Option, Result, ◌==◌, nat_lt}
+use Rattle.std.specs.Prelude.{ℕ, Bool, true, false, cond, not, ◌&&◌, List, [], ◌∷◌, length, Some, None, Ok, Err, Option, Result, nat_lt}
 use Rattle.fault.specs.declared.Refusal.{Refusal}
 use Rattle.fault.specs.declared.Refusal.TheVariants.{TextTooLong, ForeignLabel, Unexpected, TooDeep, NinthPort, HangName, MisplacedSet, TooManyItems, SetNumber}
 use Rattle.fault.specs.declared.Fault.{Fault}

@@ -1,18 +1,14 @@
 -- Which bytes are a word or a name, and what stands before a zero.
-use Rattle.std.proofs.Common.{◌≡◌, ℕ, suc, ◌<◌, ◌≤◌, Bool, true, ◌&&◌, eqb, ltb, List, [], ◌∷◌, length, get_or, refl, ap, arith}
+use Rattle.std.proofs.Common.{◌≡◌, ℕ, suc, ◌<◌, ◌≤◌, Bool, true, ◌&&◌, ltb, List, [], ◌∷◌, length, get_or, refl, ap, arith}
 use Rattle.std.proofs.lemmas.Bool.Decides.{nat_tests}
 use Rattle.text.specs.Classes.{class_of, tail}
-use Rattle.std.specs.List.{list_all, prefix_len}
-use Rattle.text.specs.Shapes.{begins}
+use Rattle.std.specs.List.{list_all}
+use Rattle.text.specs.Shapes.{begins, is_word, is_name}
 use Rattle.text.specs.declared.packed.Packing.{Packing}
-use Rattle.text.proofs.Slices.{past, at_first}
+use Rattle.text.specs.declared.packed.Packing.TheVariants.{Word, LineName}
 use Rattle.text.specs.Packed.{heads, spells, named}
 use Rattle.text.proofs.Slices.{past, at_first}
 use Rattle.text.proofs.Packing.{Bytes}
-
-pub all_longest : (p : ℕ → Bool) (bs : List ℕ) → list_all p bs ≡ eqb (prefix_len p bs) (length bs)
-all_longest p [] = refl
-all_longest p (b ∷ bs) = let ih = all_longest p bs in grind (arith, nat_tests)
 
 -- bytes that begin with what they go on with
 pub begins_whole : (p : ℕ → Bool) (bs : List ℕ) → 0 < length bs → begins p p bs ≡ list_all p bs
@@ -21,7 +17,8 @@ begins_whole p (b ∷ bs) h = refl
 
 -- a word or a line name at a slice pattern
 pub spells_shape : (of : Packing) (s : List ℕ) → 0 < length s → spells of s ≡ ((heads of (get_or s 0 0) && list_all tail (past 1 s)) && ltb (length (past 1 s)) 8)
-spells_shape of s h = ap (spells of) (at_first 0 s h)
+spells_shape Word s h = ap is_word (at_first 0 s h)
+spells_shape LineName s h = ap is_name (at_first 0 s h)
 
 -- what goes on a name is a byte, and not zero
 tail_byte : (b : ℕ) → tail b ≡ true → (0 < b) × (b < 256)

@@ -1,10 +1,10 @@
 -- Names as numbers: eight bytes, the first highest, zeros after the last.
-use Rattle.std.specs.Prelude.{◌≡◌, ℕ, zero, suc, ◌+◌, ◌*◌, ◌/◌, ◌%◌, ◌^◌, Bool, true, false, cond, ◌&&◌, ◌||◌, List, [], ◌∷◌, length, ◌==◌, nat_le, nat_lt}
+use Rattle.std.specs.Prelude.{◌≡◌, ℕ, zero, suc, ◌+◌, ◌*◌, ◌/◌, ◌%◌, ◌^◌, Bool, true, false, cond, ◌&&◌, ◌||◌, List, [], ◌∷◌, ◌==◌, nat_lt}
 use Rattle.text.specs.declared.packed.Name.{Name}
 use Rattle.text.specs.declared.packed.Packing.{Packing}
 use Rattle.text.specs.declared.packed.Packing.TheVariants.{Word, LineName}
-use Rattle.text.specs.Classes.{lower, upper, tail}
-use Rattle.text.specs.Shapes.{begins, name_limit, is_word, is_name}
+use Rattle.text.specs.Classes.{lower, upper}
+use Rattle.text.specs.Shapes.{is_word, is_name}
 
 -- the first k bytes, with zeros after the last
 unfoldable pub padded : ℕ → List ℕ → List ℕ
@@ -41,7 +41,8 @@ heads LineName = upper
 
 -- bytes that are a word, or a line name
 abbrev pub spells : Packing → List ℕ → Bool
-spells of bs = begins (heads of) tail bs && nat_le (length bs) name_limit
+spells Word = is_word
+spells LineName = is_name
 
 -- byte order: the first difference decides, and a front comes first
 abbrev pub before : List ℕ → List ℕ → Bool
