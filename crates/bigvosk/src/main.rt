@@ -25,7 +25,8 @@ fn print_script(rt: &HostRuntime, session: &mut Session, script: &[u8]) -> io::R
 {
     session.work_script(script)?;
     rt.write_all(session.out.as_slice())?;
-    session.out.clear();
+    // A new list, and not the old one emptied: what a file printed is not kept in memory while the next is read.
+    session.out = Vec::new(rt.alloc());
     Ok(())
 }
 

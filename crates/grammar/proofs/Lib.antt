@@ -1,3 +1,4 @@
+pub mod Cells
 pub mod Looking
 pub mod Automaton
 pub mod Places

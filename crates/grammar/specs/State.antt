@@ -1,5 +1,5 @@
 -- Where the reading of a hang stands after some tokens.
-use Rattle.std.specs.Prelude.{ℕ, ◌+◌, Bool, true, false, cond, List, [], ◌∷◌, reverse, ◌==◌}
+use Rattle.std.specs.Prelude.{ℕ, zero, suc, ◌+◌, Bool, true, false, cond, List, [], ◌∷◌, ◌==◌, slice_index_or}
 use Rattle.text.specs.declared.packed.Name.{Name}
 use Rattle.grammar.specs.declared.stand.Phase.{Phase}
 use Rattle.grammar.specs.declared.stand.Phase.TheVariants.{Start, Item, Label, Ports, Port, First, Second, Set, After}
@@ -139,5 +139,10 @@ next_names ns other p = ns
 abbrev pub next_state : State → Seen → ℕ → State
 next_state st s p = record { phase = next_phase st.phase s; cells = next_cells st.cells s; connectors = next_connectors st.phase st.connectors s; names = next_names st.names s p }
 
+-- the open cells of a code's stand
+unfoldable pub open_cells : ℕ → List Bool → List Bool
+open_cells zero sets = []
+open_cells (suc d) sets = slice_index_or sets (suc d) false ∷ open_cells d sets
+
 abbrev pub state_of : Stand → List Standing → State
-state_of st ns = record { phase = st.phase; cells = reverse st.sets.items; connectors = st.connectors; names = ns }
+state_of st ns = record { phase = st.phase; cells = open_cells st.depth st.sets; connectors = st.connectors; names = ns }

@@ -1,15 +1,13 @@
 //! Where a reading stands after one token more.
-ghost use Rattle.std.specs.Prelude.{◌≡◌, ◌≤◌, false, ◌&&◌, [], length, reverse, nat_le};
+ghost use Rattle.std.specs.Prelude.{◌≡◌, ◌≤◌, false, ◌&&◌, []};
 ghost use Rattle.grammar.specs.Seen.{seen};
-ghost use Rattle.grammar.specs.State.{state_of, next_phase, next_cells, next_connectors, after_name};
-ghost use Rattle.text.specs.Limits.{depth_limit};
-ghost use Rattle.grammar.specs.Tests.{is_name, is_open_brace, ports_full, too_deep, ninth_port, crowded};
+ghost use Rattle.grammar.specs.State.{state_of, open_cells, next_phase, next_cells, next_connectors, after_name};
+ghost use Rattle.grammar.specs.Tests.{is_name, ports_full, too_deep, ninth_port, crowded};
 ghost use Rattle.grammar.specs.Advance.{Advanced};
 
+use crate::limits::DEPTHS;
 use crate::sign::Sign;
 use crate::stand::{Phase, Stand};
-use arrayvec::ArrayVec;
-use text::limits::DEPTH_LIMIT;
 
 /// What was read last, after a name.
 fn after_name(phase: Phase) -> Phase
@@ -59,22 +57,26 @@ fn next_connectors(stand: &Stand, sign: Sign<'_>) -> usize
     }
 }
 
-/// Opens and closes cells, and gives the innermost its set, after a token that is not at fault.
-fn step_cells(sets: &mut ArrayVec<bool, DEPTH_LIMIT>, sign: Sign<'_>)
-    requires { is_open_brace (seen sign) && nat_le depth_limit (length (reverse sets.old.items)) ≡ false }
-    ensures { reverse sets.new.items ≡ next_cells (reverse sets.old.items) (seen sign.entry) }
+/// How many cells are open, and which of them have their set, after a token that is not at fault.
+#[tactic(auto, using(crate::proofs::Cells::cells_open, crate::proofs::Cells::cells_close, crate::proofs::Cells::cells_marked, crate::proofs::Cells::room_above))]
+fn next_cells(stand: &Stand, sign: Sign<'_>) -> (usize, [bool; DEPTHS])
+    requires { too_deep (state_of stand.now []) (seen sign) ≡ false }
+    ensures is { open_cells result.0 result.1 ≡ next_cells (open_cells stand.now.depth stand.now.sets) (seen sign.entry) }
+    ensures shallow { result.0 ≤ 16 }
 {
+    let depth = stand.depth;
+    let mut sets = stand.sets;
     match sign {
-        Sign::OpenBrace => sets.push(false),
-        Sign::CloseBrace => {
-            let _ = sets.pop();
+        Sign::OpenBrace => {
+            sets[depth + 1] = false;
+            (depth + 1, sets)
         }
+        Sign::CloseBrace => (depth.saturating_sub(1), sets),
         Sign::At => {
-            if let Some(set) = sets.last_mut() {
-                *set = true;
-            }
+            sets[depth] = true;
+            (depth, sets)
         }
-        _ => {}
+        _ => (depth, sets),
     }
 }
 
@@ -87,7 +89,11 @@ pub fn advance(stand: &mut Stand, sign: Sign<'_>)
 {
     let phase = next_phase(stand.phase, sign);
     let connectors = next_connectors(stand, sign);
-    step_cells(&mut stand.sets, sign);
-    stand.phase = phase;
-    stand.connectors = connectors;
+    let (depth, sets) = next_cells(stand, sign);
+    *stand = Stand {
+        phase,
+        depth,
+        sets,
+        connectors,
+    };
 }

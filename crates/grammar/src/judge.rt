@@ -13,7 +13,7 @@ use crate::stand::{Phase, Stand};
 use fault::Refusal;
 use label::form::Form;
 use label::kind::Label;
-use text::limits::{PORT_LIMIT, SET_LIMIT};
+use text::limits::{DEPTH_LIMIT, PORT_LIMIT, SET_LIMIT};
 use text::number::value_up_to;
 use text::packed::Name;
 
@@ -55,37 +55,38 @@ fn judge_name<L: Label>(stand: &Stand, name: Name, times: u8) -> Result<Option<E
 }
 
 /// An opening brace in its place.
+#[tactic(auto, using(crate::proofs::Cells::length_cells))]
 fn judge_open<L: Label>(stand: &Stand) -> Result<Option<Event<L>>, Refusal>
     ensures { (ns : List Standing) → result ≡ judged L.kind (state_of stand.now ns) open_brace }
 {
     match stand.phase {
-        Phase::Start | Phase::Item if stand.sets.is_full() => Err(Refusal::TooDeep),
+        Phase::Start | Phase::Item if stand.depth >= DEPTH_LIMIT => Err(Refusal::TooDeep),
         Phase::Start | Phase::Item => Ok(Some(Event::Enter)),
         _ => Err(Refusal::Unexpected),
     }
 }
 
 /// A closing brace in its place.
+#[tactic(auto, using(crate::proofs::Cells::inside_some, crate::proofs::Cells::inside_none))]
 fn judge_close<L: Label>(stand: &Stand) -> Result<Option<Event<L>>, Refusal>
     ensures { (ns : List Standing) → result ≡ judged L.kind (state_of stand.now ns) close_brace }
 {
     match stand.phase {
-        Phase::Start | Phase::Label | Phase::After if !stand.sets.is_empty() => Ok(Some(
-            Event::Leave,
-        )),
+        Phase::Start | Phase::Label | Phase::After if stand.depth > 0 => Ok(Some(Event::Leave)),
         _ => Err(Refusal::Unexpected),
     }
 }
 
 /// An `@` in its place.
+#[tactic(auto, using(crate::proofs::Cells::set_some, crate::proofs::Cells::set_none))]
 fn judge_at<L: Label>(stand: &Stand) -> Result<Option<Event<L>>, Refusal>
     ensures { (ns : List Standing) → result ≡ judged L.kind (state_of stand.now ns) at_sign }
 {
     match stand.phase {
-        Phase::Start | Phase::Item => match stand.sets.last() {
-            Some(false) => Ok(None),
-            _ => Err(Refusal::MisplacedSet),
-        },
+        Phase::Start | Phase::Item if stand.depth == 0 || stand.sets[stand.depth] => Err(
+            Refusal::MisplacedSet,
+        ),
+        Phase::Start | Phase::Item => Ok(None),
         _ => Err(Refusal::Unexpected),
     }
 }

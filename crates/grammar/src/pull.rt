@@ -11,12 +11,11 @@ ghost use Rattle.grammar.specs.Pull.{Judged, left, limited, Begun, Taken, given,
 use crate::advance::advance;
 use crate::event::Event;
 use crate::judge::judge;
-use crate::limits::TEXT_LIMIT;
+use crate::limits::{DEPTHS, TEXT_LIMIT};
 use crate::reader::Reader;
 use crate::sign::Sign;
 use crate::stand::{Phase, Stand};
 use crate::table::Names;
-use arrayvec::ArrayVec;
 use fault::{Fault, Refusal};
 use label::kind::Label;
 use text::lexer::next_token;
@@ -78,11 +77,12 @@ fn verdict<L: Label>(
 }
 
 /// Whether a hang may end here.
+#[tactic(auto, using(crate::proofs::Cells::inside_is))]
 fn may_end(stand: &Stand) -> bool
     ensures { (ns : List Standing) → result ≡ complete (state_of stand.now ns) }
 {
     match stand.phase {
-        Phase::Start | Phase::Label | Phase::After => stand.sets.is_empty(),
+        Phase::Start | Phase::Label | Phase::After => stand.depth == 0,
         _ => false,
     }
 }
@@ -102,13 +102,15 @@ fn finish<L: Label>(stand: &Stand, names: &Names, place: usize) -> Result<Option
 
 impl<'t> Reader<'t> {
     /// A reader at the start of a text, whose first byte is at the place `start`.
+    #[tactic(auto, unfolding(crate::specs::State::open_cells))]
     pub fn new(text: &'t [u8], start: u32) -> Reader<'t>
         requires { length text.now ≤ text_limit }
         ensures { Begun start text.now result }
     {
         let stand = Stand {
             phase: Phase::Start,
-            sets: ArrayVec::new(),
+            depth: 0,
+            sets: [false; DEPTHS],
             connectors: 0,
         };
         Reader {

@@ -1,8 +1,7 @@
 //! Where the reading of a hang stands.
 ghost use Rattle.std.specs.Prelude.{◌≤◌};
 
-use arrayvec::ArrayVec;
-use text::limits::DEPTH_LIMIT;
+use crate::limits::DEPTHS;
 use text::packed::Name;
 
 /// What was read last, as far as it decides what may follow.
@@ -29,13 +28,17 @@ pub enum Phase {
 }
 
 /// The state of a reading, but for the names that stood.
-#[derive(Drop)]
+#[derive(Clone, Copy)]
 pub struct Stand {
     pub phase: Phase,
-    /// Whether each open cell has its set, the innermost cell last.
-    pub sets: ArrayVec<bool, DEPTH_LIMIT>,
+    /// How many cells are open.
+    pub depth: usize,
+    /// Whether each open cell has its set, by its depth.
+    // An array with a count, and no `ArrayVec`, which is not `Copy`: a stand can be copied.
+    pub sets: [bool; DEPTHS],
     /// How many connectors were begun.
     pub connectors: usize,
+    ghost shallow: { depth ≤ 16 },
     ghost few: { connectors ≤ 64 },
 }
 

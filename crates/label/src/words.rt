@@ -25,11 +25,13 @@ fn is_word_label(number: u64) -> bool
 }
 
 /// The token of a packed word. Another number has none.
+#[tactic(auto, using(text::proofs::Packing::spelling_front, text::proofs::Packing::spelling_short))]
 pub(crate) fn spell_word(number: u64) -> Option<Spelled>
     ensures { option_map told result ≡ word_token number }
 {
     if is_word_label(number) {
-        Spelled::new(Form::Word, &spelled(number))
+        let (bytes, count) = spelled(number);
+        Spelled::new(Form::Word, &bytes[..count])
     } else {
         None
     }

@@ -1,12 +1,12 @@
 -- Counting the ends of links.
-use Rattle.std.proofs.Common.{◌≡◌, ℕ, zero, suc, ◌+◌, ◌<◌, ◌≤◌, Bool, true, false, cond, ◌&&◌, eqb, ltb, List, [], ◌∷◌, ◌++◌, map, length, get_or, set, replicate, sym, refl, ap, ◌∙◌, ⊎_elim, arith, length-set, get_or-set_other, get_or-set_same}
+use Rattle.std.proofs.Common.{◌≡◌, ℕ, zero, suc, ◌+◌, ◌<◌, ◌≤◌, Bool, true, false, cond, ◌&&◌, eqb, ltb, List, [], ◌∷◌, ◌++◌, map, length, get_or, set, replicate, sym, refl, ap, ap₂, ◌∙◌, ⊎_elim, arith, length-set, get_or-set_other, get_or-set_same}
 use lib.ListN.{length-replicate}
 use Rattle.std.proofs.lemmas.Bool.{and_left, cases_lt, le-ltb, lt-ltb}
 use Rattle.std.proofs.lemmas.Bool.Decides.{nat_tests}
 use Rattle.plan.specs.declared.tables.Atom.{Atom}
 use Rattle.plan.specs.declared.tables.FreeLink.{FreeLink}
 use Rattle.plan.specs.Model.{node_of}
-use Rattle.std.proofs.lemmas.List.Folds.{flat_map-map}
+use Rattle.std.proofs.lemmas.List.Folds.{flat_map-map, list_all-append, list_all-map}
 use Rattle.std.proofs.lemmas.List.Sums.{fold-append}
 use Rattle.std.specs.List.{flat_map, list_all}
 use Rattle.plan.specs.Sound.{count, port_links}
@@ -80,6 +80,18 @@ is_twice_right s x =
     (λ (h : x < 8256). ap (λ b. ltb x 8256 && b) (tallied_right s (replicate 8256 0) x (omega arith) (omega arith) ∙ ap (λ n. eqb n 2) (omega arith)))
     (λ (h : 8256 ≤ x). and_left (ltb x 8256) _ (le-ltb x 8256 h) ∙ sym (and_left (ltb x 8256) _ (le-ltb x 8256 h)))
     (cases_lt x 8256)
+
+-- the ends of a plan, atom by atom and then the free links
+ports_split : {L : Type 0} (p : ℕ → Bool) (atoms : List (Atom L)) → list_all p (flat_map (λ a. (node_of a).links) atoms) ≡ list_all (λ a. list_all p (node_of a).links) atoms
+ports_split p [] = refl
+ports_split p (a ∷ atoms) =
+    list_all-append p (node_of a).links (flat_map (λ b. (node_of b).links) atoms)
+    ∙ ap (λ t. list_all p (node_of a).links && t) (ports_split p atoms)
+
+pub ends_split : {L : Type 0} (p : ℕ → Bool) (atoms : List (Atom L)) (free : List FreeLink) → list_all p (flat_map (λ a. (node_of a).links) atoms ++ map (λ f. f.link) free) ≡ (list_all (λ a. list_all p (node_of a).links) atoms && list_all (λ f. p f.link) free)
+ends_split p atoms free =
+    list_all-append p (flat_map (λ a. (node_of a).links) atoms) (map (λ f. f.link) free)
+    ∙ ap₂ (λ s t. s && t) (ports_split p atoms) (list_all-map p (λ f. f.link) free)
 
 pub links_right : {L : Type 0} (atoms : List (Atom L)) (free : List FreeLink) (counts : List ℕ) → counts ≡ tallied (map (λ f. f.link) free) (tallied (port_links (map node_of atoms)) (replicate 8256 0)) → list_all (is_twice counts) (flat_map (λ a. (node_of a).links) atoms ++ map (λ f. f.link) free) ≡ links_test (map node_of atoms) free
 unfolding port_links

@@ -1,9 +1,12 @@
 -- Names of free links.
-use Rattle.std.proofs.Common.{◌≡◌, ℕ, suc, ◌+◌, ◌-◌, ◌<◌, Bool, true, false, cond, not, ◌&&◌, ◌||◌, eqb, List, [], ◌∷◌, map, drop, drop-cons, add-one, length, length-drop, get_or, take, refl, ap, ◌∙◌, arith}
+use Rattle.std.proofs.Common.{◌≡◌, ℕ, suc, ◌+◌, ◌-◌, ◌<◌, Bool, true, false, cond, not, ◌&&◌, ◌||◌, eqb, List, [], ◌∷◌, map, drop, drop-cons, add-one, length, length-drop, get_or, take, refl, ap, ◌∙◌, ap₂, arith}
 use Rattle.std.proofs.lemmas.Bool.{ne_eqb}
 use Rattle.std.proofs.lemmas.Bool.Decides.{nat_tests}
 use Rattle.std.proofs.lemmas.List.{take_all}
 use Rattle.std.specs.List.{list_any}
+use Rattle.text.specs.Packed.{digits, pack, spelling}
+use Rattle.text.specs.Shapes.{is_name}
+use Rattle.label.specs.Spell.{spelling_front}
 use Rattle.plan.specs.declared.tables.FreeLink.{FreeLink}
 use Rattle.plan.specs.Sound.{count, distinct}
 
@@ -37,3 +40,10 @@ apart_here s i b h e =
     let n = length-drop (suc i) s in
     rw (e, add-one, take_all (length s - suc i) (drop (suc i) s) (omega arith), drop-cons s i no_link)
     (ap (λ v. v && distinct (packed_names (drop (suc i) s))) (count_any (get_or s i no_link).name.packed (drop (suc i) s)))
+
+-- what the code tests of a number
+pub packed_test : (number n p : ℕ) (bytes : List ℕ) (w : Bool) → bytes ≡ digits 8 number [] → n ≡ length (spelling number) → w ≡ is_name (take (n - 0) bytes) → p ≡ pack (take (n - 0) bytes) → (w && eqb p number) ≡ (is_name (spelling number) && eqb (pack (spelling number)) number)
+packed_test number n p bytes w b c t q =
+    let m : n - 0 ≡ length (spelling number) = omega arith in
+    let e : take (n - 0) bytes ≡ spelling number = ap₂ take m b ∙ spelling_front number in
+    ap₂ (λ x y. x && eqb y number) (t ∙ ap is_name e) (q ∙ ap pack e)

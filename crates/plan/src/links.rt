@@ -34,7 +34,7 @@ fn tally_one(link: u16, counts: &mut [u8])
 
 /// Counts the ends at ports.
 #[tactic(auto, unfolding(crate::specs::Sound::port_links, crate::specs::Tally::tallied))]
-fn tally_ports<L: Label>(atoms: &[Atom<L>], counts: &mut [u8])
+pub fn tally_ports<L: Label>(atoms: &[Atom<L>], counts: &mut [u8])
     ensures { counts.new ≡ tallied (port_links (map node_of atoms.now)) counts.old }
 {
     for atom in atoms {
@@ -47,12 +47,20 @@ fn tally_ports<L: Label>(atoms: &[Atom<L>], counts: &mut [u8])
 // Beside `tally_ports`: ports and free links are of two types, and each is one loop.
 /// Counts the ends that are free links.
 #[tactic(auto, unfolding(crate::specs::Tally::tallied))]
-fn tally_free(free: &[FreeLink], counts: &mut [u8])
+pub fn tally_free(free: &[FreeLink], counts: &mut [u8])
     ensures { counts.new ≡ tallied (map (λ f. f.link) free.now) counts.old }
 {
     for end in free {
         tally_one(end.link, counts);
     }
+}
+
+/// Counts the ends at ports and those that are free links.
+fn tally_ends<L: Label>(atoms: &[Atom<L>], free: &[FreeLink], counts: &mut [u8])
+    ensures { counts.new ≡ tallied (map (λ f. f.link) free.now) (tallied (port_links (map node_of atoms.now)) counts.old) }
+{
+    tally_ports(atoms, counts);
+    tally_free(free, counts);
 }
 
 /// How many ends each link has, as far as three.
@@ -61,8 +69,7 @@ pub fn count_ends<L: Label>(atoms: &[Atom<L>], free: &[FreeLink]) -> [u8; LINKS]
 {
     // One place for each link that a plan may have, and no length of its own.
     let mut counts = [0; LINKS];
-    tally_ports(atoms, &mut counts);
-    tally_free(free, &mut counts);
+    tally_ends(atoms, free, &mut counts);
     counts
 }
 
@@ -73,21 +80,41 @@ fn is_twice(link: u16, counts: &[u8]) -> bool
     counts.get(usize::from(link)) == Some(&2)
 }
 
+/// Whether each of these links was counted twice.
+fn links_twice(links: &[u16], counts: &[u8]) -> bool
+    ensures { result ≡ list_all (is_twice counts.now) links.now }
+{
+    links.iter().all(|link| is_twice(*link, counts))
+}
+
+/// Whether the link of every port was counted twice.
+fn ports_twice<L: Label>(atoms: &[Atom<L>], counts: &[u8]) -> bool
+    ensures { result ≡ list_all (λ a. list_all (is_twice counts.now) (node_of a).links) atoms.now }
+{
+    atoms.iter().all(|atom| links_twice(ports(atom), counts))
+}
+
+/// Whether the link of every free link was counted twice.
+fn free_twice(free: &[FreeLink], counts: &[u8]) -> bool
+    ensures { result ≡ list_all (λ f. is_twice counts.now f.link) free.now }
+{
+    free.iter().all(|end| is_twice(end.link, counts))
+}
+
 /// Whether the link of each end was counted twice, at ports and free.
 fn ends_twice<L: Label>(atoms: &[Atom<L>], free: &[FreeLink], counts: &[u8]) -> bool
     ensures { result ≡ list_all (is_twice counts.now) (flat_map (λ a. (node_of a).links) atoms.now ++ map (λ f. f.link) free.now) }
 {
-    atoms
-        .iter()
-        .flat_map(|atom| ports(atom))
-        .copied()
-        .chain(free.iter().map(|end| end.link))
-        .all(|link| is_twice(link, counts))
+    // A list for each atom and one for the free links: one chain of both looks at its state for each end.
+    ports_twice(atoms, counts) && free_twice(free, counts)
 }
 
 /// Whether every link is low enough and has two ends.
 pub(crate) fn links_sound<L: Label>(atoms: &[Atom<L>], free: &[FreeLink]) -> bool
     ensures { result ≡ links_test (map node_of atoms.now) free.now }
 {
-    ends_twice(atoms, free, &count_ends(atoms, free))
+    // Counted in place: the counters that `count_ends` gives are copied.
+    let mut counts = [0; LINKS];
+    tally_ends(atoms, free, &mut counts);
+    ends_twice(atoms, free, &counts)
 }

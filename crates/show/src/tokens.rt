@@ -9,15 +9,18 @@ use crate::scribe::Scribe;
 use arrayvec::ArrayVec;
 use itoa::Buffer;
 use label::kind::Label;
-use text::packed::Name;
+use text::packed::{Name, spelled};
 use text::token::NAME_LIMIT;
 
 impl Scribe<'_> {
     /// Writes a line name.
+    #[tactic(auto, using(text::proofs::Packing::spelling_front, text::proofs::Packing::spelling_short))]
     pub(crate) fn put_name(&mut self, name: Name)
         ensures { page_of self.new ≡ wrote (spelling name.packed) (page_of self.old) }
     {
-        self.put_all(&name.spelling());
+        // The bytes where they are: a list of them would be made and cut for each port.
+        let (bytes, count) = spelled(name.packed);
+        self.put_all(&bytes[..count]);
     }
 
     /// Writes a set in decimal.

@@ -61,6 +61,44 @@ before_run [] = refl
 before_run (b ∷ bs) =
     elim (eqb b 0) as (λ v. take (cond (not v) (1 + prefix_len (λ x. not (eqb x 0)) bs) 0) (b ∷ bs) ≡ cond v [] (b ∷ before_zero bs)) [ true ↦ refl | false ↦ rw one-add (ap (λ t. b ∷ t) (before_run bs)) ]
 
+-- the eight bytes and the number of them before the first zero, as the library gives them
+pub bytes_spelled : (n : ℕ) (bs : List ℕ) → bs ≡ bytes_high_first 8 n → bs ≡ digits 8 n []
+bytes_spelled n bs e = e ∙ sym (append-nil (bytes_high_first 8 n)) ∙ sym (digits_be 8 n [])
+
+run_before : (bs : List ℕ) → prefix_len (λ b. not (eqb b 0)) bs ≡ length (before_zero bs)
+unfolding before_zero
+run_before [] = refl
+run_before (b ∷ bs) =
+    elim (eqb b 0) as (λ v. cond (not v) (1 + prefix_len (λ x. not (eqb x 0)) bs) 0 ≡ length (cond v [] (b ∷ before_zero bs))) [ true ↦ refl | false ↦ rw one-add (ap suc (run_before bs)) ]
+
+pub count_spelled : (n k : ℕ) (bs : List ℕ) → bs ≡ bytes_high_first 8 n → k ≡ prefix_len (λ b. not (eqb b 0)) bs → k ≡ length (spelling n)
+count_spelled n k bs e h = h ∙ run_before bs ∙ ap (λ d. length (before_zero d)) (bytes_spelled n bs e)
+
+-- what is spelled is the front of the eight bytes
+length_digits : (k n : ℕ) (after : List ℕ) → length (digits k n after) ≡ k + length after
+unfolding digits
+length_digits zero n after = omega arith
+length_digits (suc k) n after = let ih = length_digits k (n / 256) (n % 256 ∷ after) in omega arith
+
+pub eight_digits : (n : ℕ) → length (digits 8 n []) ≡ 8
+eight_digits n = length_digits 8 n []
+
+pub before_short : (bs : List ℕ) → length (before_zero bs) ≤ length bs
+unfolding before_zero
+before_short [] = omega arith
+before_short (b ∷ bs) =
+    let ih = before_short bs in
+    elim (eqb b 0) as (λ v. length (cond v [] (b ∷ before_zero bs)) ≤ suc (length bs)) [ true ↦ omega arith | false ↦ omega arith ]
+
+pub before_front : (bs : List ℕ) → take (length (before_zero bs)) bs ≡ before_zero bs
+before_front bs = ap (λ n. take n bs) (sym (run_before bs)) ∙ before_run bs
+
+pub spelling_short : (n : ℕ) → length (spelling n) ≤ 8
+spelling_short n = let a = before_short (digits 8 n []) in let b = eight_digits n in omega arith
+
+pub spelling_front : (n : ℕ) → take (length (spelling n)) (digits 8 n []) ≡ spelling n
+spelling_front n = before_front (digits 8 n [])
+
 -- bytes of a name: none is zero, each is below 256
 abbrev pub Bytes : List ℕ → Type 0
 Bytes [] = Unit {0}

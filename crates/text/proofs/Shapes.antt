@@ -1,14 +1,18 @@
 -- Which bytes are a word or a name, and what stands before a zero.
-use Rattle.std.proofs.Common.{◌≡◌, ℕ, suc, ◌<◌, ◌≤◌, Bool, true, ◌&&◌, ltb, List, [], ◌∷◌, length, get_or, refl, ap, arith}
+use Rattle.std.proofs.Common.{◌≡◌, ℕ, suc, ◌<◌, ◌≤◌, Bool, true, ◌&&◌, eqb, ltb, List, [], ◌∷◌, length, get_or, refl, ap, arith}
 use Rattle.std.proofs.lemmas.Bool.Decides.{nat_tests}
 use Rattle.text.specs.Classes.{class_of, tail}
-use Rattle.std.specs.List.{list_all}
+use Rattle.std.specs.List.{list_all, prefix_len}
 use Rattle.text.specs.Shapes.{begins, is_word, is_name}
 use Rattle.text.specs.declared.packed.Packing.{Packing}
 use Rattle.text.specs.declared.packed.Packing.TheVariants.{Word, LineName}
 use Rattle.text.specs.Packed.{heads, spells, named}
 use Rattle.text.proofs.Slices.{past, at_first}
 use Rattle.text.proofs.Packing.{Bytes}
+
+pub all_longest : (p : ℕ → Bool) (bs : List ℕ) → list_all p bs ≡ eqb (prefix_len p bs) (length bs)
+all_longest p [] = refl
+all_longest p (b ∷ bs) = let ih = all_longest p bs in grind (arith, nat_tests)
 
 -- bytes that begin with what they go on with
 pub begins_whole : (p : ℕ → Bool) (bs : List ℕ) → 0 < length bs → begins p p bs ≡ list_all p bs

@@ -26,14 +26,21 @@ pub enum Class {
 pub fn class_of(b: u8) -> Class
     ensures { result ≡ class_of b }
 {
+    // Small letters by a test of their own, and first, then the other ranges, then single bytes: a text has most bytes of the first
+    // kinds, and one match of all was slower for them.
+    if matches!(b, b'a'..=b'z') {
+        return Class::Lower;
+    }
     match b {
-        b'\t' | b'\n' | b'\r' | b' ' => Class::Blank,
-        b'a'..=b'z' => Class::Lower,
-        b'_' | b'A'..=b'Z' => Class::Upper,
+        b'A'..=b'Z' => Class::Upper,
         b'0'..=b'9' => Class::Digit,
-        b'-' => Class::Minus,
-        b'(' | b')' | b'{' | b'}' | b',' | b'.' | b':' | b'=' | b'$' | b'@' => Class::Mark,
-        _ => Class::Other,
+        _ => match b {
+            b'\t' | b'\n' | b'\r' | b' ' => Class::Blank,
+            b'_' => Class::Upper,
+            b'-' => Class::Minus,
+            b'(' | b')' | b'{' | b'}' | b',' | b'.' | b':' | b'=' | b'$' | b'@' => Class::Mark,
+            _ => Class::Other,
+        },
     }
 }
 

@@ -11,8 +11,10 @@ use crate::lexer::is_run;
 fn with_digit(n: u32, b: u8) -> u32
     ensures { result ≡ min (n * 10 + (b - 48)) 4294967295 }
 {
-    n.saturating_mul(10)
-        .saturating_add(u32::from(b.saturating_sub(48)))
+    // In 64 bits, with one bound: two sums that stop at the bound are slower.
+    let wide = u64::from(n) * 10 + u64::from(b.saturating_sub(48));
+    // Proved to fit, so no `try_from`, which could fail.
+    wide.min(u64::from(u32::MAX)) as u32
 }
 
 /// Whether bytes are one digit or more, and nothing else.

@@ -1,7 +1,7 @@
 //! Words and line names of at most eight characters, packed into one number.
-ghost use Rattle.std.specs.Prelude.{◌≡◌, ◌&&◌, ◌==◌, not};
+ghost use Rattle.std.specs.Prelude.{◌≡◌, ◌&&◌, ◌==◌, [], length, not};
 ghost use Rattle.std.specs.List.{prefix_len};
-ghost use Rattle.text.specs.Packed.{pack, padded, spelling, heads, spells, underscored, Lossless, Ordered};
+ghost use Rattle.text.specs.Packed.{pack, padded, digits, spelling, heads, spells, underscored, Lossless, Ordered};
 
 use crate::class::{Class, Run, class_of};
 use crate::lexer::is_run;
@@ -35,7 +35,7 @@ impl Name {
     pub fn spelling(self) -> ArrayVec<u8, NAME_LIMIT>
         ensures { result.items ≡ spelling self.packed }
     {
-        spelled(self.packed)
+        spelling(self.packed)
     }
 }
 
@@ -71,12 +71,24 @@ fn filled(bytes: &[u8]) -> usize
     bytes.iter().take_while(|b| **b != 0).count()
 }
 
-/// The bytes that a number packs: those of its eight that stand before the first zero.
-pub fn spelled(packed: u64) -> ArrayVec<u8, NAME_LIMIT>
-    ensures { result.items ≡ spelling packed }
+// An array with a count, and no list: what it says of the bytes past the first zero is public.
+/// The eight bytes of a packed name, and how many of them stand before the first zero.
+#[tactic(auto, using(crate::proofs::Packing::bytes_spelled, crate::proofs::Packing::count_spelled))]
+pub fn spelled(packed: u64) -> ([u8; 8], usize)
+    ensures bytes { result.0 ≡ digits 8 packed [] }
+    ensures count { result.1 ≡ length (spelling packed) }
 {
     let bytes = packed.to_be_bytes();
     let count = filled(&bytes);
+    (bytes, count)
+}
+
+/// The bytes that a number packs: those of its eight that stand before the first zero.
+#[tactic(auto, using(crate::proofs::Packing::spelling_front, crate::proofs::Packing::spelling_short))]
+pub fn spelling(packed: u64) -> ArrayVec<u8, NAME_LIMIT>
+    ensures { result.items ≡ spelling packed }
+{
+    let (bytes, count) = spelled(packed);
     let mut name = ArrayVec::from(bytes);
     name.truncate(count);
     name
@@ -106,11 +118,13 @@ pub fn is_spelling(of: Packing, bytes: &[u8]) -> bool
 }
 
 /// Whether a number packs a word, or a line name.
+#[tactic(auto, using(crate::proofs::Packing::spelling_front, crate::proofs::Packing::spelling_short))]
 pub fn is_packed(of: Packing, number: u64) -> bool
     ensures { result ≡ (spells of (spelling number) && pack (spelling number) == number) }
 {
-    let bytes = spelled(number);
-    is_spelling(of, &bytes) && packed(&bytes) == number
+    let (bytes, count) = spelled(number);
+    let name = &bytes[..count];
+    is_spelling(of, name) && packed(name) == number
 }
 
 /// Packing loses nothing of a word or a line name, and numeric order is byte order.
